@@ -1,45 +1,38 @@
 -- What a level run answers is what the levels of the wires are.
 use mathlib.Core.Path.{_≡_, refl, sym, ap, _∙_, subst}
-use mathlib.Core.Bool.{Bool, true, false, cond, not}
 use mathlib.Core.List.{List, [], _∷_, _++_}
-use mathlib.Core.Logic.{_⊎_, inl, inr}
+use mathlib.Core.Logic.{inl, inr}
 use Prim.Native.Nat.{ℕ, suc, _+_, _-_, _<_, _≤_}
 use native.Mathlib.Nat.{add-zero}
 use native.Mathlib.Omega.{arith}
 use lib.Dec.{ltb}
 use lib.ListN.{length, getD, drop}
 use borrow.Author.Count.{below-more}
-use Rattle.std.proofs.shelf.Lists.{length-drop, length-push, length-append, getD-drop, getD-append-left, getD-push, drop-drop}
-use Rattle.std.proofs.shelf.Tests.{cases-lt, cases-bool, cond-true, cond-false, lt-ltb, le-ltb, not-from-true, not-from-false}
-use Rattle.std.specs.declared.result.Result.the-variants.{Ok, Err}
+use Rattle.std.proofs.shelf.Lists.{length-drop, length-push, getD-drop, getD-append-left, getD-push, drop-drop}
+use Rattle.std.proofs.shelf.Tests.{cases-lt, cond-true, cond-false, lt-ltb, le-ltb}
 use Rattle.circuits.specs.Answers.{overrun-of}
 use Rattle.circuits.specs.Circuits.{Meaning, Lawful, width, Feeds}
 use Rattle.circuits.specs.Growths.{Tables}
-use Rattle.circuits.specs.Levels.{Rules, own, own-at, outgoing, Outcome, run-from, plan-fits, over, Ending, level-run, Levelled, Told, Ran}
+use Rattle.circuits.specs.Levels.{Rules, own, own-at, outgoing, Outcome, run-from, Levelled, Told}
 use Rattle.circuits.specs.declared.making.Making.{Making}
 use Rattle.circuits.specs.declared.making.Making.the-variants.{Input, Constant, Copy, Inversion, Sum, Product}
-use Rattle.circuits.specs.declared.answer.Levels.the-variants.{Clean, Overrun}
-use Rattle.circuits.specs.declared.answer.Refusal.the-variants.{MemoryTooShort, BadRank}
 
--- the levels past the operands do not matter
-own-front : (t : Tables) (out more : List ℕ) (k : ℕ) (m : Making) → Feeds k m → k ≤ length out → own t (out ++ more) m ≡ own t out m
-own-front t out more k Input f h = refl
-own-front t out more k (Constant b) f h = refl
-own-front t out more k (Copy a) f h = getD-append-left out more 0 a (omega arith)
-own-front t out more k (Inversion a) f h = getD-append-left out more 0 a (omega arith)
-own-front t out more k (Sum a b) f h =
-    ap (λ x. t .sum x (getD (out ++ more) b 0)) (getD-append-left out more 0 a (omega (arith, f .0)))
-    ∙ ap (t .sum (getD out a 0)) (getD-append-left out more 0 b (omega (arith, f .1)))
-own-front t out more k (Product a b) f h =
-    ap (λ x. t .product x (getD (out ++ more) b 0)) (getD-append-left out more 0 a (omega (arith, f .0)))
-    ∙ ap (t .product (getD out a 0)) (getD-append-left out more 0 b (omega (arith, f .1)))
+-- an own level goes by the levels of the operands alone
+pub own-agrees : (t : Tables) (xs ys : List ℕ) (k : ℕ) (m : Making) → Feeds k m → ((j : ℕ) → j < k → getD xs j 0 ≡ getD ys j 0) → own t xs m ≡ own t ys m
+own-agrees t xs ys k Input f same = refl
+own-agrees t xs ys k (Constant b) f same = refl
+own-agrees t xs ys k (Copy a) f same = same a f
+own-agrees t xs ys k (Inversion a) f same = same a f
+own-agrees t xs ys k (Sum a b) f same = ap (λ x. t .sum x (getD xs b 0)) (same a (f .0)) ∙ ap (t .sum (getD ys a 0)) (same b (f .1))
+own-agrees t xs ys k (Product a b) f same = ap (λ x. t .product x (getD xs b 0)) (same a (f .0)) ∙ ap (t .product (getD ys a 0)) (same b (f .1))
 
 module _ (m : Meaning) (laws : Lawful m) (r : Rules) (plan : List ℕ) where
   Right : Outcome → Type 0
   Right o = Levelled m r plan (o .levels) × Told m r (o .levels) (overrun-of (o .answer))
 
   same-own : (out more : List ℕ) (k : ℕ) → k ≤ length out → k < width m → own-at m r (out ++ more) k ≡ own-at m r out k
-  same-own out more k h w = own-front (r .growth) out more k (getD (m .makings) k Input) (laws .fed k w) h
+  same-own out more k h w =
+      own-agrees (r .growth) (out ++ more) out k (getD (m .makings) k Input) (laws .fed k w) (λ j l. getD-append-left out more 0 j (omega arith))
 
   -- one level more
   levelled-more : (out : List ℕ) → Levelled m r plan out → length out < width m → own-at m r out (length out) ≤ r .limit → Levelled m r plan (out ++ (outgoing r plan (length out) (own-at m r out (length out)) ∷ []))

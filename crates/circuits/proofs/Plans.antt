@@ -1,16 +1,15 @@
 -- Plans: the loop that tests one, and what a plan that fits has.
-use mathlib.Core.Path.{_≡_, refl, sym, ap, _∙_, subst}
-use mathlib.Core.Bool.{Bool, true, false, _&&_, _||_}
+use mathlib.Core.Path.{_≡_, refl, sym, ap, _∙_}
+use mathlib.Core.Bool.{true, false, _&&_}
 use mathlib.Core.List.{List, [], _∷_}
 use mathlib.Core.Logic.{inl, inr}
 use Prim.Native.Nat.{ℕ, _+_, _<_, _≤_}
 use native.Mathlib.Omega.{arith}
 use lib.Dec.{leb, eqb}
 use lib.ListN.{length, getD, drop}
-use Rattle.std.specs.Finite.{nth}
 use Rattle.std.proofs.shelf.Lists.{drop-more, drop-all}
 use Rattle.std.proofs.shelf.Maps.{nth-past}
-use Rattle.std.proofs.shelf.Tests.{cases-lt, both-ways, and-parts, and-from, leb-true, le-leb, ne-eqb, eq-eqb, or-from}
+use Rattle.std.proofs.shelf.Tests.{cases-lt, both-ways, and-parts, and-from, leb-true, le-leb, ne-eqb, or-from}
 use Rattle.circuits.specs.Circuits.{Meaning, Lawful}
 use Rattle.circuits.specs.Levels.{produced-of, produced-at, plan-fits, has}
 use Rattle.circuits.specs.declared.making.Making.{Making}

@@ -1,17 +1,15 @@
 -- A level run, as far as it has come.
 use mathlib.Core.Path.{_≡_, refl, sym, ap, _∙_, subst}
-use mathlib.Core.Bool.{Bool, true, false, cond, _&&_, _||_}
+use mathlib.Core.Bool.{true, false, cond, _&&_, _||_}
 use mathlib.Core.List.{List, [], _∷_, _++_}
-use mathlib.Core.Logic.{_⊎_, inl, inr}
 use Prim.Native.Nat.{ℕ, _+_, _-_, _<_, _≤_}
 use native.Mathlib.Nat.{add-zero, sub-zero}
 use native.Mathlib.Omega.{arith}
-use lib.Dec.{eqb, leb, ltb}
+use lib.Dec.{leb, ltb}
 use lib.ListN.{length, getD, set, take, drop}
 use borrow.Author.Count.{below-more}
 use Rattle.std.proofs.shelf.Lists.{drop-more, drop-all, drop-drop, length-drop, length-take-le, length-set, take-append-drop, take-more-set, drop-set-lt, getD-set-same, getD-set-other, getD-drop, getD-take}
-use Rattle.std.proofs.shelf.Tests.{cases-lt, and-parts, lt-ltb, le-ltb, eq-eqb, ne-eqb, cond-true, cond-false, leb-true, or-from}
-use Rattle.circuits.specs.Circuits.{Meaning, Lawful, width}
+use Rattle.std.proofs.shelf.Tests.{and-parts, lt-ltb, le-ltb, eq-eqb, ne-eqb, cond-true, cond-false}
 use Rattle.circuits.specs.Growths.{Tables, Level}
 use Rattle.circuits.specs.Levels.{Rules, own, has, outgoing, Outcome, run-from, produced-at, plan-fits, over}
 use Rattle.circuits.specs.declared.making.Making.{Making}

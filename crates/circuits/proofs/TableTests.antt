@@ -1,17 +1,17 @@
 -- The test of a table passes exactly where the table is kept.
 use mathlib.Core.Path.{_≡_, refl, sym, ap, _∙_, subst}
-use mathlib.Core.Bool.{Bool, true, false, cond, not, _&&_}
-use mathlib.Core.List.{List, [], _∷_, map}
+use mathlib.Core.Bool.{Bool, true, not, _&&_}
+use mathlib.Core.List.{List, [], _∷_}
 use mathlib.Core.Logic.{inl, inr}
-use Prim.Native.Nat.{ℕ, zero, suc, _+_, _<_, _≤_}
+use Prim.Native.Nat.{ℕ, suc, _+_, _<_, _≤_}
 use native.Mathlib.Nat.{add-zero, zero-add}
 use native.Mathlib.Omega.{arith}
 use lib.Dec.{eqb, leb, ltb}
 use lib.ListN.{length, getD}
 use Rattle.std.proofs.shelf.Lists.{length-map, getD-map}
 use Rattle.std.proofs.shelf.Tests.{and-from, cond-true, cond-false, lt-ltb, le-ltb, le-leb, eq-eqb, cases-lt, not-from-false}
-use Rattle.circuits.specs.Circuits.{Lawful, width, is-input, Feeds}
-use Rattle.circuits.specs.Tables.{Kept, makings-of, names-of, tabled, feeds, placed, entry-fits, rank-fits, each, counts-fit, table-fits}
+use Rattle.circuits.specs.Circuits.{width, is-input, Feeds}
+use Rattle.circuits.specs.Tables.{Kept, names-of, tabled, feeds, placed, entry-fits, rank-fits, each, counts-fit, table-fits}
 use Rattle.circuits.specs.TableLaws.{counts, rank-at, table-lawful}
 use Rattle.circuits.specs.declared.making.Making.{Making}
 use Rattle.circuits.specs.declared.making.Making.the-variants.{Input, Constant, Copy, Inversion, Sum, Product}

@@ -2,6 +2,7 @@
 use mathlib.Core.Path.{_≡_}
 use mathlib.Core.Bool.{Bool, true, false, cond, not, _&&_, _||_}
 use mathlib.Core.List.{List, [], _∷_, _++_}
+use mathlib.Core.Logic.{_⊎_, _↔_}
 use Prim.Native.Nat.{ℕ, _+_, _<_, _≤_}
 use lib.Dec.{eqb, leb, ltb}
 use lib.ListN.{length, getD, drop}
@@ -11,8 +12,8 @@ use Rattle.std.specs.declared.option.Option.the-variants.{Some, None}
 use Rattle.std.specs.declared.result.Result.{Result}
 use Rattle.std.specs.declared.result.Result.the-variants.{Ok, Err}
 use Rattle.circuits.specs.Answers.{number-of, overrun-of, first-fault}
-use Rattle.circuits.specs.Circuits.{Meaning, width}
-use Rattle.circuits.specs.Growths.{Tables}
+use Rattle.circuits.specs.Circuits.{Meaning, Lawful, width}
+use Rattle.circuits.specs.Growths.{Tables, Grows, Bounded, linear}
 use Rattle.circuits.specs.declared.making.Making.{Making}
 use Rattle.circuits.specs.declared.making.Making.the-variants.{Input, Constant, Copy, Inversion, Sum, Product}
 use Rattle.circuits.specs.declared.answer.Levels.{Levels}
@@ -124,6 +125,33 @@ Ran m r plan before (Ok a) after =
     × ((out : List ℕ) × (Levelled m r plan out × (Told m r out (overrun-of a) × (after ≡ over out before))))
 Ran m r plan before (Err e) after = (first-fault (faults m plan before) ≡ Some (number-of e)) × (after ≡ before)
 
+-- every wire has its own level within the limit
+pub record Within (m : Meaning) (r : Rules) (plan : List ℕ) : Type 0 where
+  pub out : List ℕ
+  pub all : length out ≡ width m
+  pub levelled : Levelled m r plan out
+
 -- each produced wire is in the plan
 abbrev pub All-refreshed : Meaning → List ℕ → Type 0
 All-refreshed m plan = (k : ℕ) → produced-at (m .makings) k ≡ true → has k plan ≡ true
+
+-- the level of a wire that is refreshed, or that needs no refresh
+abbrev pub Fresh : Rules → ℕ → Type 0
+Fresh r a = (a ≡ 1) ⊎ (a ≡ r .fresh)
+
+-- the product of two such levels is within the limit
+abbrev pub Fresh-products-fit : Rules → Type 0
+Fresh-products-fit r = (a b : ℕ) → Fresh r a → Fresh r b → r .growth .product a b ≤ r .limit
+
+-- laws of levels, for every circuit and every scheme
+pub record Level-laws : Type 0 where
+  -- a plan is clean exactly when every own level is within the limit
+  pub clean-is-within : (m : Meaning) → Lawful m → (r : Rules) (plan : List ℕ) → Is-clean m r plan ↔ Within m r plan
+  -- the levels of a clean plan are one list only
+  pub one-levelling : (m : Meaning) → Lawful m → (r : Rules) (plan : List ℕ) (a b : Within m r plan) → a .out ≡ b .out
+  -- to refresh every produced wire is clean, where products of refreshed wires are within the limit
+  pub all-refreshed-is-clean : (m : Meaning) → Lawful m → (t : Tables) (l n : ℕ) → Grows t → Bounded l n
+      → Fresh-products-fit (rules t l n) → (plan : List ℕ) → All-refreshed m plan → Is-clean m (rules t l n) plan
+  -- they are at every scheme of limit two, and at the linear one of limit 20
+  pub fit-at-two : (t : Tables) → Grows t → (n : ℕ) → Bounded 2 n → Fresh-products-fit (rules t 2 n)
+  pub fit-at-twenty : Fresh-products-fit (rules linear 20 9)

@@ -1,20 +1,17 @@
 -- A matching circuit keeps the laws of circuits.
 use mathlib.Core.Path.{_≡_, refl, sym, ap, _∙_, subst}
-use mathlib.Core.Bool.{true, false, cond}
-use mathlib.Core.List.{List, map}
-use mathlib.Core.Logic.{inl, inr}
+use mathlib.Core.Bool.{true, false}
 use Prim.Native.Nat.{ℕ, _+_, _-_, _*_, _≤_, _<_}
 use native.Mathlib.Nat.{zero-add}
 use native.Mathlib.Omega.{arith}
 use lib.Dec.{ltb, eqb}
-use lib.ListN.{length, getD}
-use Rattle.std.specs.Iters.{counting}
+use lib.ListN.{getD}
 use Rattle.std.proofs.shelf.Counted.{length-map-counting, getD-map-counting, length-counting, getD-counting}
 use Rattle.std.proofs.shelf.Tests.{ltb-true, ltb-false, eqb-true, eqb-false, cond-both}
 use Rattle.circuits.specs.Circuits.{Lawful, width, is-input, Feeds}
 use Rattle.circuits.specs.Matchings.{matching, matching-making}
 use Rattle.circuits.specs.declared.making.Making.{Making}
-use Rattle.circuits.specs.declared.making.Making.the-variants.{Input, Constant, Copy, Inversion, Sum, Product}
+use Rattle.circuits.specs.declared.making.Making.the-variants.{Input, Inversion, Sum, Product}
 
 module _ (b k : ℕ) where
   -- what holds of each making that may stand at rank k holds of the one that does

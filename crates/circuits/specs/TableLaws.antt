@@ -1,7 +1,7 @@
 -- A table that passes the test keeps the laws of circuits.
-use mathlib.Core.Path.{_≡_, refl, sym, ap, _∙_, subst}
-use mathlib.Core.Bool.{Bool, true, false, cond, not, _&&_}
-use mathlib.Core.List.{List, [], _∷_, map}
+use mathlib.Core.Path.{_≡_, sym, ap, _∙_, subst}
+use mathlib.Core.Bool.{Bool, true, false, not, _&&_}
+use mathlib.Core.List.{List, [], _∷_}
 use Prim.Native.Nat.{ℕ, zero, suc, _+_, _<_, _≤_}
 use native.Mathlib.Nat.{add-zero, zero-add}
 use native.Mathlib.Omega.{arith}
@@ -9,7 +9,7 @@ use lib.Dec.{eqb, leb, ltb}
 use lib.ListN.{length, getD}
 use Rattle.std.proofs.shelf.Lists.{length-map, getD-map}
 use Rattle.std.proofs.shelf.Tests.{leb-true, ltb-true, eqb-true, and-parts, cond-true, cond-false, lt-ltb, le-ltb, not-true}
-use Rattle.circuits.specs.Circuits.{Meaning, Lawful, width, is-input, Feeds}
+use Rattle.circuits.specs.Circuits.{Lawful, width, is-input, Feeds}
 use Rattle.circuits.specs.Tables.{makings-of, names-of, tabled, feeds, placed, entry-fits, rank-fits, each, counts-fit, table-fits}
 use Rattle.circuits.specs.declared.making.Making.{Making}
 use Rattle.circuits.specs.declared.making.Making.the-variants.{Input, Constant, Copy, Inversion, Sum, Product}

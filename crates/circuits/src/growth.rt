@@ -79,7 +79,7 @@ pub impl Growth for Linear as LinearGrowth {
     ghost tables = { λ _. linear };
 
     fn product(&self, a: u32, b: u32) -> u32 {
-        a.max(b) + 1
+        1 + a.max(b)
     }
 }
 

@@ -6,13 +6,13 @@ ghost use Prim.Native.Nat.{ℕ, _+_, _<_, _≤_};
 ghost use lib.ListN.{length, getD};
 ghost use Rattle.circuits.specs.Circuits.{width, Feeds};
 ghost use Rattle.circuits.specs.Growths.{Level};
-ghost use Rattle.circuits.specs.Levels.{rules, own, run-from, produced, produced-at, plan-fits, over, level-run, Ran};
+ghost use Rattle.circuits.specs.Levels.{rules, own, run-from, produced, produced-at, plan-fits, over, level-run, Ran, Level-laws};
 ghost use Rattle.circuits.specs.declared.making.Making.the-variants.{Input};
+use crate::answer::Levels;
+use crate::answer::Refusal;
 use crate::circuit::Circuit;
 use crate::growth::Scheme;
-use crate::answer::Levels;
 use crate::making::Making;
-use crate::answer::Refusal;
 
 fn is_made(making: Making) -> bool
     ensures { λ r. ⌜ r ≡ produced making ⌝ }
@@ -123,3 +123,8 @@ pub fn level_run<C: Circuit, S: Scheme>(
     }
     Ok(run(circuit, plan, scheme, memory))
 }
+
+// What holds of levels, whatever the circuit and the scheme.
+pub fn level_laws()
+    ensures { λ _. ⌜ Level-laws ⌝ }
+{}

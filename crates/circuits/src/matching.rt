@@ -3,9 +3,9 @@ ghost use Prim.Native.Nat.{_≤_};
 ghost use Rattle.circuits.specs.Matchings.{matching, Unfit};
 ghost use Rattle.circuits.specs.MatchingLaws.{matching-lawful};
 ghost use Rattle.std.specs.declared.result.Result.the-variants.{Ok, Err};
+use crate::answer::Refusal;
 use crate::circuit::Circuit;
 use crate::making::Making;
-use crate::answer::Refusal;
 
 // The widths that a matching circuit may have go from 1 to this.
 const MOST_WIDTH: u32 = 4096;

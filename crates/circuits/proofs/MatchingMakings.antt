@@ -1,21 +1,10 @@
 -- How each wire of a matching circuit is made.
-use mathlib.Core.Path.{_≡_, refl, sym, ap, _∙_, subst}
-use mathlib.Core.Bool.{true, false, cond}
-use mathlib.Core.List.{List, map}
-use mathlib.Core.Logic.{inl, inr}
+use mathlib.Core.Path.{_≡_}
 use Prim.Native.Nat.{ℕ, _+_, _-_, _*_, _≤_, _<_}
-use native.Mathlib.Nat.{zero-add}
 use native.Mathlib.Omega.{arith}
-use lib.Dec.{ltb, eqb}
-use lib.ListN.{length, getD}
-use Rattle.std.specs.Iters.{counting}
-use Rattle.std.proofs.shelf.Counted.{length-map-counting, getD-map-counting, length-counting, getD-counting}
-use Rattle.std.proofs.shelf.Tests.{ltb-true, ltb-false, eqb-true, eqb-false, cond-both}
 use Rattle.std.proofs.shelf.Ways.{tells}
-use Rattle.circuits.specs.Circuits.{Lawful, width, is-input, Feeds}
 use Rattle.circuits.specs.Matchings.{matching, matching-making}
-use Rattle.circuits.specs.declared.making.Making.{Making}
-use Rattle.circuits.specs.declared.making.Making.the-variants.{Input, Constant, Copy, Inversion, Sum, Product}
+use Rattle.circuits.specs.declared.making.Making.the-variants.{Input, Inversion, Sum, Product}
 
 module _ (b k : ℕ) where
   pub made-input : k < 2 * b → matching-making b k ≡ Input
