@@ -28,7 +28,7 @@ module _ (m : Meaning) (laws : Lawful m) (r : Rules) (plan : List ℕ) where
   ran : List ℕ
   ran = run-from r plan [] (m .makings) .levels
 
-  within-from-clean : Is-clean m r plan → Within m r plan
+  within-from-clean : Is-clean (m .makings) r plan → Within m r plan
   unfolding ran
   within-from-clean e =
       let p = right m laws r plan in
@@ -44,7 +44,7 @@ module _ (m : Meaning) (laws : Lawful m) (r : Rules) (plan : List ℕ) where
       let here : getD xs n 0 ≡ getD ys n 0 = is .goes n (omega arith) ∙ ap (outgoing r plan n) own-same ∙ sym (also .goes n (omega arith)) in
       elim (cases-lt k n) [ inl l ↦ before k l | inr g ↦ let e : k ≡ n = omega arith in ap (λ i. getD xs i 0) e ∙ here ∙ ap (λ i. getD ys i 0) (sym e) ]
 
-  clean-from-within : Within m r plan → Is-clean m r plan
+  clean-from-within : Within m r plan → Is-clean (m .makings) r plan
   unfolding ran
   clean-from-within w =
       let p = right m laws r plan in
@@ -100,7 +100,7 @@ module _ (t : Tables) (l n : ℕ) (grows : Grows t) (bounds : Bounded l n) where
           | inr e ↦ cond-both (has k plan) n (own-at m r out k) (Fresh r) (λ _. inr refl) (λ _. inl (own-first t out mk e))
         ])
 
-  all-clean : Fresh-products-fit (rules t l n) → (m : Meaning) → Lawful m → (plan : List ℕ) → All-refreshed m plan → Is-clean m (rules t l n) plan
+  all-clean : Fresh-products-fit (rules t l n) → (m : Meaning) → Lawful m → (plan : List ℕ) → All-refreshed m plan → Is-clean (m .makings) (rules t l n) plan
   all-clean fit m laws plan all =
       let r = rules t l n in
       let p = right m laws r plan in

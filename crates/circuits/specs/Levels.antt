@@ -100,8 +100,8 @@ level-run m r plan memory =
     (record { result = Ok (run-from r plan [] (m .makings) .answer); memory = over (run-from r plan [] (m .makings) .levels) memory }))
 
 -- a plan is clean if no own level passes the limit
-abbrev pub Is-clean : Meaning → Rules → List ℕ → Type 0
-Is-clean m r plan = run-from r plan [] (m .makings) .answer ≡ Clean
+abbrev pub Is-clean : List Making → Rules → List ℕ → Type 0
+Is-clean c r plan = run-from r plan [] c .answer ≡ Clean
 
 -- the own level of the wire at rank k, where the outgoing levels are out
 abbrev pub own-at : Meaning → Rules → List ℕ → ℕ → ℕ
@@ -146,12 +146,12 @@ Fresh-products-fit r = (a b : ℕ) → Fresh r a → Fresh r b → r .growth .pr
 -- laws of levels, for every circuit and every scheme
 pub record Level-laws : Type 0 where
   -- a plan is clean exactly when every own level is within the limit
-  pub clean-is-within : (m : Meaning) → Lawful m → (r : Rules) (plan : List ℕ) → Is-clean m r plan ↔ Within m r plan
+  pub clean-is-within : (m : Meaning) → Lawful m → (r : Rules) (plan : List ℕ) → Is-clean (m .makings) r plan ↔ Within m r plan
   -- the levels of a clean plan are one list only
   pub one-levelling : (m : Meaning) → Lawful m → (r : Rules) (plan : List ℕ) (a b : Within m r plan) → a .out ≡ b .out
   -- to refresh every produced wire is clean, where products of refreshed wires are within the limit
   pub all-refreshed-is-clean : (m : Meaning) → Lawful m → (t : Tables) (l n : ℕ) → Grows t → Bounded l n
-      → Fresh-products-fit (rules t l n) → (plan : List ℕ) → All-refreshed m plan → Is-clean m (rules t l n) plan
+      → Fresh-products-fit (rules t l n) → (plan : List ℕ) → All-refreshed m plan → Is-clean (m .makings) (rules t l n) plan
   -- they are at every scheme of limit two, and at the linear one of limit 20
   pub fit-at-two : (t : Tables) → Grows t → (n : ℕ) → Bounded 2 n → Fresh-products-fit (rules t 2 n)
   pub fit-at-twenty : Fresh-products-fit (rules linear 20 9)

@@ -25,7 +25,7 @@ each-from p (x ∷ xs) k (suc j) d e h =
 pub each-at : {X : Type 0} (p : ℕ → X → Bool) (xs : List X) (j : ℕ) (d : X) → each p 0 xs ≡ true → j < length xs → p j (getD xs j d) ≡ true
 each-at p xs j d e h = subst (λ i. p i (getD xs j d) ≡ true) (zero-add j) (each-from p xs 0 j d e h)
 
-feeds-tells : (k : ℕ) (m : Making) → feeds k m ≡ true → Feeds k m
+pub feeds-tells : (k : ℕ) (m : Making) → feeds k m ≡ true → Feeds k m
 feeds-tells k Input e = tt
 feeds-tells k (Constant b) e = tt
 feeds-tells k (Copy a) e = ltb-true a k e

@@ -1,0 +1,15 @@
+pub mod Sums
+pub mod Wires
+pub mod Levels
+pub mod Ranks
+pub mod Standing
+pub mod Flows
+pub mod Paths
+pub mod Traces
+pub mod Stored
+pub mod Tests
+pub mod Cuts
+pub mod Plans
+pub mod Existence
+pub mod Certificates
+pub mod Jobs

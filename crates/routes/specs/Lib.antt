@@ -1,0 +1,11 @@
+pub mod Routes
+pub mod Sums
+pub mod Ranks
+pub mod Plans
+pub mod Standing
+pub mod Flows
+pub mod Residuals
+pub mod Paths
+pub mod Traces
+pub mod Stored
+pub mod Jobs
