@@ -9,6 +9,8 @@ use search::find;
 use search::find_further;
 use search::find_or_exhaust;
 use search::mark_reached;
+use std::alloc::AllocError;
+use std::alloc::Global;
 use std::io;
 
 const PLACES: u32 = 9;
@@ -28,14 +30,16 @@ const OFFSETS: [u32; 10] = [0, 2, 3, 5, 5, 6, 7, 8, 10, 99];
 // 77 is no place, so that step leads back to its own.
 const STEPS: [u32; 11] = [1, 2, 3, 3, 4, 2, 6, 7, 6, 77, 0];
 
-// The graph in the front of the memory, and 0 behind it.
-fn drawn() -> [u32; 57] {
-    let mut memory = [0; 57];
-    let numbers = FLAGS.iter().chain(OFFSETS.iter()).chain(STEPS.iter());
-    for (cell, number) in memory.iter_mut().zip(numbers) {
-        *cell = *number;
+// The graph in the front of the memory, and as many zeros behind it as the search needs.
+fn drawn(heap: Global) -> Result<Vec<u32>, AllocError> {
+    let mut memory = Vec::new(heap);
+    for number in FLAGS.iter().chain(OFFSETS.iter()).chain(STEPS.iter()) {
+        memory.push(*number)?;
     }
-    memory
+    for _ in 0..3 * PLACES {
+        memory.push(0)?;
+    }
+    Ok(memory)
 }
 
 fn print_marked(rt: &LibcRuntime, memory: &[u32]) -> io::Result<()> {
@@ -100,9 +104,10 @@ fn go_on_or_anew(
 }
 
 fn begin_short(rt: &LibcRuntime, graph: &Listed) -> io::Result<u32> {
-    let mut memory = [0; 56];
-    let outcome = find(graph, &mut memory);
-    print_outcome(rt, "With a number less", outcome, &memory)
+    let mut memory = drawn(rt.alloc())?;
+    let _ = memory.pop();
+    let outcome = find(graph, memory.as_mut_slice());
+    print_outcome(rt, "With a number less", outcome, memory.as_slice())
 }
 
 fn run(rt: &LibcRuntime, graph: &Listed, memory: &mut [u32]) -> io::Result<u32> {
@@ -116,8 +121,8 @@ fn main(rt: LibcRuntime) -> io::Result<()> {
     let Ok(graph) = Listed::new(PLACES, TARGETS) else {
         return println!(rt, "The graph is too large.");
     };
-    let mut memory = drawn();
-    run(&rt, &graph, &mut memory)?;
+    let mut memory = drawn(rt.alloc())?;
+    run(&rt, &graph, memory.as_mut_slice())?;
     begin_short(&rt, &graph)?;
     Ok(())
 }
