@@ -1,0 +1,12 @@
+pub mod Kept
+pub mod Writes
+pub mod Steps
+pub mod Grows
+pub mod Drops
+pub mod Units
+pub mod Numbers
+pub mod Endings
+pub mod Residual
+pub mod Found
+pub mod Listing
+pub mod Closing
