@@ -1,0 +1,13 @@
+pub mod Laws
+pub mod Held
+pub mod Stand
+pub mod Tested
+pub mod Sides
+pub mod Walk
+pub mod GateLines
+pub mod Inputs
+pub mod Bodies
+pub mod Heads
+pub mod Lawful
+pub mod Tabled
+pub mod Accepted

@@ -1,0 +1,4 @@
+pub mod Texts
+pub mod Wires
+pub mod Holds
+pub mod Accepted

@@ -1,0 +1,4 @@
+pub mod Common
+pub mod Told
+pub mod Shown
+pub mod Turns
