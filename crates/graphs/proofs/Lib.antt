@@ -1,0 +1,5 @@
+pub mod Fronts
+pub mod ResidualSteps
+pub mod BarredSteps
+pub mod ResidualOutcomes
+pub mod BarredOutcomes

@@ -1,0 +1,3 @@
+pub mod Fronts
+pub mod Meanings
+pub mod Outcomes
