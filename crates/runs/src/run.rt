@@ -48,7 +48,7 @@ fn one<P: Planner>(planning: &mut P, call: Call, out: &mut [u32]) -> Answer
 }
 
 // Whether so many numbers are enough for all calls.
-fn enough(calls: &[Call], numbers: usize) -> bool
+pub fn enough(calls: &[Call], numbers: usize) -> bool
     ensures { λ r. ⌜ r ≡ leb (rooms (now (calls .entry))) numbers ⌝ }
 {
     let mut left = numbers;
