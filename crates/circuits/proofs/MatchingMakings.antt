@@ -1,7 +1,7 @@
 -- How each wire of a matching circuit is made.
 use Rattle.std.proofs.Common.{◌≡◌, ℕ, ◌+◌, ◌-◌, ◌*◌, ◌<◌, ◌≤◌, arith}
 use Rattle.std.proofs.lemmas.Bool.Decides.{nat_tests}
-use Rattle.circuits.specs.Matchings.{matching, matching_making}
+use Rattle.circuits.specs.Matchings.{matching_making}
 use Rattle.circuits.specs.declared.making.Making.TheVariants.{Input, Inversion, Sum, Product}
 
 module _ (b k : ℕ) where

@@ -19,7 +19,7 @@ fn is_made(making: Making) -> bool
 }
 
 fn is_produced<C: Circuit>(circuit: &C, rank: u32) -> bool
-    ensures { result ≡ produced_at (meaning circuit.now).makings rank }
+    ensures { result ≡ produced_at (C.Circuit.meaning circuit.now).makings rank }
 {
     match circuit.making(rank) {
         Some(making) => is_made(making),
@@ -29,13 +29,13 @@ fn is_produced<C: Circuit>(circuit: &C, rank: u32) -> bool
 
 // Whether a plan may go on with a rank, from low on.
 fn goes_on<C: Circuit>(circuit: &C, low: u32, rank: u32) -> bool
-    ensures { result ≡ (nat_le low rank && produced_at (meaning circuit.now).makings rank) }
+    ensures { result ≡ (nat_le low rank && produced_at (C.Circuit.meaning circuit.now).makings rank) }
 {
     low <= rank && is_produced(circuit, rank)
 }
 
 fn plan_fits<C: Circuit>(circuit: &C, plan: &[u32]) -> bool
-    ensures { result ≡ plan_fits (meaning circuit.now).makings 0 plan.now }
+    ensures { result ≡ plan_fits (C.Circuit.meaning circuit.now).makings 0 plan.now }
 {
     let mut low = 0;
     for rank in plan {

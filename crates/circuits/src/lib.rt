@@ -1,4 +1,6 @@
 // Circuits, and the levels of their wires.
+#![tactic(auto)]
+
 pub mod answer;
 pub mod circuit;
 pub mod growth;

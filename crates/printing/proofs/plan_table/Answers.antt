@@ -23,7 +23,7 @@ returns c =
     let es = c.args.entries.now in
     let before = c.args.ranks.now in
     let ordered = table_ordered es (take (length es) before) c.args.inputs c.args.outputs c.requires.fits in
-    let new = c.planning-of-planning.ensures.made in
+    let new = c.planning_of-planning.ensures.made in
     record {
       planned =
           table_long es _ (le-ltb (length c.args.memory.now) (24 * length es) (omega arith)) before c.requires.room c.finish.result c.finish.new.room c.ok.result

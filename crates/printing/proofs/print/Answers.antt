@@ -8,8 +8,8 @@ returns-in-Err c =
     let o = outcome c.args.text.now c.args.limit c.args.table.now c.args.ranks.now in
     let told = c.in-Err.ensures in
     let end =
-    printed_fault o (length c.args.memory.now) c.args.ranks.now c.print-read.new.ranks c.args.out.now c.print-read.new.out c.in-Err.fault told.printed
-    c.write-fault.result c.write-fault.new.out c.write-fault.ensures in
+    printed_fault o (length c.args.memory.now) c.args.ranks.now c.print_read.new.ranks c.args.out.now c.print_read.new.out c.in-Err.fault told.printed
+    c.write_fault.result c.write_fault.new.out c.write_fault.ensures in
     record { printed = end.0; table = told.table; ranks = end.1; past = told.past }
 
 pub returns-in-Ok : goal.returns-in-Ok
@@ -17,5 +17,5 @@ returns-in-Ok c =
     let o = outcome c.args.text.now c.args.limit c.args.table.now c.args.ranks.now in
     let told = c.in-Ok.ensures in
     let end =
-    printed_plan o (length c.args.memory.now) c.args.ranks.now c.print-read.new.ranks c.args.out.now c.print-read.new.out c.in-Ok.answer told.printed in
+    printed_plan o (length c.args.memory.now) c.args.ranks.now c.print_read.new.ranks c.args.out.now c.print_read.new.out c.in-Ok.answer told.printed in
     record { printed = end.0; table = told.table; ranks = end.1; past = told.past }

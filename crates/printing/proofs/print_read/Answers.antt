@@ -5,42 +5,42 @@ use Rattle.printing.specs.Printed.{PrintsRead, short_for}
 use Rattle.printing.proofs.Readings.{Filled, filled_of, accepted_front, read_printed, read_past, read_refused}
 use Rattle.printing.proofs.print_read.Goals as goal
 
-pub returns-in-err-header : goal.returns-in-err-header
-returns-in-err-header c =
-    let told = c.in-err-header.ensures in
+pub returns-in_err-header : goal.returns-in_err-header
+returns-in_err-header c =
+    let told = c.in_err-header.ensures in
     let p = err_from_is_err_and c.from-residual.result c.from-residual.ensures.1 in
     let o = outcome c.args.text.now c.args.limit c.args.table.now c.args.ranks.now in
-    let fault = c.in-err-header.field-0.0 in
+    let fault = c.in_err-header.field-0.0 in
     let is : c.from-residual.result ≡ Err fault = p.1 ∙ ap Err p.2 in
     record {
       printed =
-          subst (λ r. PrintsRead o (short_for o (length c.args.memory.now)) c.args.ranks.now c.read-circuit.new.ranks c.args.out.now r c.args.out.now) (sym is)
-          (read_refused o fault told.answer (short_for o (length c.args.memory.now)) c.args.ranks.now c.read-circuit.new.ranks c.args.out.now told.ranks);
+          subst (λ r. PrintsRead o (short_for o (length c.args.memory.now)) c.args.ranks.now c.read_circuit.new.ranks c.args.out.now r c.args.out.now) (sym is)
+          (read_refused o fault told.answer (short_for o (length c.args.memory.now)) c.args.ranks.now c.read_circuit.new.ranks c.args.out.now told.ranks);
       table = told.table;
       past = refl;
     }
 
-pub print-table-requires : goal.print-table-requires
-print-table-requires c =
-    let h = c.in-ok-header.header in
-    let table = c.read-circuit.new.table in
+pub print_table-requires : goal.print_table-requires
+print_table-requires c =
+    let h = c.in_ok-header.header in
+    let table = c.read_circuit.new.table in
     let whole : h.wires - 0 ≡ h.wires = omega arith in
-    let front = accepted_front _ _ h table c.read-circuit.new.ranks c.in-ok-header.ensures.answered (take (h.wires - 0) table) (ap (λ n. take n table) whole) in
+    let front = accepted_front _ _ h table c.read_circuit.new.ranks c.in_ok-header.ensures.answered (take (h.wires - 0) table) (ap (λ n. take n table) whole) in
     record { room = front.0; fits = front.1 }
 
 pub returns : goal.returns
 returns c =
-    let h = c.in-ok-header.header in
-    let table = c.read-circuit.new.table in
-    let told = c.in-ok-header.ensures in
+    let h = c.in_ok-header.header in
+    let table = c.read_circuit.new.table in
+    let told = c.in_ok-header.ensures in
     let o = outcome c.args.text.now c.args.limit c.args.table.now c.args.ranks.now in
     let f = filled_of o h _ c.args.table.now table _ told.answer told.table told.answered in
     let whole : h.wires - 0 ≡ h.wires = omega arith in
     let front = ap (λ n. take n table) whole in
     record {
       printed =
-          read_printed o h table f (take (h.wires - 0) table) front (length c.args.memory.now) c.args.ranks.now c.read-circuit.new.ranks c.print-table.new.ranks
-          c.args.out.now told.ranks c.print-table.result c.print-table.new.out c.print-table.ensures.printed;
+          read_printed o h table f (take (h.wires - 0) table) front (length c.args.memory.now) c.args.ranks.now c.read_circuit.new.ranks c.print_table.new.ranks
+          c.args.out.now told.ranks c.print_table.result c.print_table.new.out c.print_table.ensures.printed;
       table = told.table;
-      past = read_past o h table f (take (h.wires - 0) table) front c.args.memory.now c.print-table.new.memory c.print-table.ensures.past;
+      past = read_past o h table f (take (h.wires - 0) table) front c.args.memory.now c.print_table.new.memory c.print_table.ensures.past;
     }

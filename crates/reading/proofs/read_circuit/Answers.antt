@@ -4,10 +4,10 @@ use Rattle.reading.proofs.read_circuit.Goals as goal
 
 pub returns : goal.returns
 returns c =
-    let told = c.read-into.ensures in
+    let told = c.read_into.ensures in
     record {
       answer = told.answer;
       table = told.table;
       ranks = told.ranks;
-      answered = answered c.args.text.now c.args.limit (length c.args.table.now) (length c.args.ranks.now) c.read-into.result c.args.table.now c.read-into.new.table c.args.ranks.now c.read-into.new.ranks told.answer told.table told.ranks;
+      answered = answered c.args.text.now c.args.limit (length c.args.table.now) (length c.args.ranks.now) c.read_into.result c.args.table.now c.read_into.new.table c.args.ranks.now c.read_into.new.ranks told.answer told.table told.ranks;
     }

@@ -16,18 +16,18 @@ meant es ins i first w n e a b =
 pub loop-i-init : goal.loop-i-init
 loop-i-init g c = laid_none c.args.keep c.args.out.now c.args.at
 
-pub overflow-sub-further : goal.overflow-sub-further
-overflow-sub-further g c = omega (arith, c.inputs-first.ensures, c.wires.ensures, (sound (g.C.Circuit.meaning c.args.circuit.now) (g.C.Circuit.laws c.args.circuit.now)).laws.enough, table_length (g.C.Circuit.meaning c.args.circuit.now) (g.C.Circuit.laws c.args.circuit.now))
+pub overflow_sub-further : goal.overflow_sub-further
+overflow_sub-further g c = omega (arith, c.inputs-first.ensures, c.wires.ensures, (sound (g.C.Circuit.meaning c.args.circuit.now) (g.C.Circuit.laws c.args.circuit.now)).laws.enough, table_length (g.C.Circuit.meaning c.args.circuit.now) (g.C.Circuit.laws c.args.circuit.now))
 
-pub overflow-add-rank : goal.overflow-add-rank
-overflow-add-rank g c = omega (arith, c.inputs-first.ensures, c.wires.ensures, c.wires.type-inv, c.loop-i-test.true, (sound (g.C.Circuit.meaning c.args.circuit.now) (g.C.Circuit.laws c.args.circuit.now)).laws.enough, table_length (g.C.Circuit.meaning c.args.circuit.now) (g.C.Circuit.laws c.args.circuit.now))
+pub overflow_add-rank : goal.overflow_add-rank
+overflow_add-rank g c = omega (arith, c.inputs-first.ensures, c.wires.ensures, c.wires.type_inv, c.loop-i-test.true, (sound (g.C.Circuit.meaning c.args.circuit.now) (g.C.Circuit.laws c.args.circuit.now)).laws.enough, table_length (g.C.Circuit.meaning c.args.circuit.now) (g.C.Circuit.laws c.args.circuit.now))
 
-pub put-wire-on-requires : goal.put-wire-on-requires
-put-wire-on-requires g c =
+pub put_wire-on-requires : goal.put_wire-on-requires
+put_wire-on-requires g c =
     let es : List Entry = table_of (g.C.Circuit.meaning c.args.circuit.now) in
     let ins : ℕ = (g.C.Circuit.meaning c.args.circuit.now).inputs in
     let lt : c.loop-i.i < length (drop ins es) = omega (arith, length-drop ins es, table_length (g.C.Circuit.meaning c.args.circuit.now) (g.C.Circuit.laws c.args.circuit.now), c.inputs-first.ensures, c.wires.ensures, c.loop-i-test.true) in
-    room_same c.args.keep c.loop-i.out c.loop-i.on _ _ (meant es ins c.loop-i.i c.inputs-first.result c.making-at.result c.name-at.result c.inputs-first.ensures c.making-at.ensures c.name-at.ensures)
+    room_same c.args.keep c.loop-i.out c.loop-i.on _ _ (meant es ins c.loop-i.i c.inputs-first.result c.making_at.result c.name_at.result c.inputs-first.ensures c.making_at.ensures c.name_at.ensures)
     (room_next c.args.keep c.args.out.now c.args.at (wires_text es (drop ins es)) c.requires (wires_text es (take c.loop-i.i (drop ins es))) (making_text es (get_or (drop ins es) c.loop-i.i blank_entry).making (get_or (drop ins es) c.loop-i.i blank_entry).name) (wires_text es (drop (c.loop-i.i + 1) (drop ins es))) (wires_at es (drop ins es) c.loop-i.i blank_entry lt) _ _ c.loop-i.invariant)
 
 pub loop-i-preserved : goal.loop-i-preserved
@@ -37,7 +37,7 @@ loop-i-preserved g c =
     let lt : c.loop-i.i < length (drop ins es) = omega (arith, length-drop ins es, table_length (g.C.Circuit.meaning c.args.circuit.now) (g.C.Circuit.laws c.args.circuit.now), c.inputs-first.ensures, c.wires.ensures, c.loop-i-test.true) in
     let w : List ℕ = making_text es (get_or (drop ins es) c.loop-i.i blank_entry).making (get_or (drop ins es) c.loop-i.i blank_entry).name in
     laid_next c.args.keep c.args.out.now c.args.at (wires_text es (drop ins es)) c.requires (wires_text es (take c.loop-i.i (drop ins es))) w (wires_text es (drop (c.loop-i.i + 1) (drop ins es))) (wires_at es (drop ins es) c.loop-i.i blank_entry lt) _ _ c.loop-i.invariant _ _
-    (laid_same c.args.keep c.loop-i.out c.loop-i.on _ w (sym (meant es ins c.loop-i.i c.inputs-first.result c.making-at.result c.name-at.result c.inputs-first.ensures c.making-at.ensures c.name-at.ensures)) _ _ c.put-wire-on.ensures) _ (wires_more es (drop ins es) c.loop-i.i blank_entry lt)
+    (laid_same c.args.keep c.loop-i.out c.loop-i.on _ w (sym (meant es ins c.loop-i.i c.inputs-first.result c.making_at.result c.name_at.result c.inputs-first.ensures c.making_at.ensures c.name_at.ensures)) _ _ c.put_wire-on.ensures) _ (wires_more es (drop ins es) c.loop-i.i blank_entry lt)
 
 pub returns : goal.returns
 returns g c =

@@ -5,8 +5,8 @@ use Rattle.flows.proofs.Steps.{unpass_needs, send_needs, take_needs, pass_moved,
 use Rattle.flows.proofs.Writes.{changed_to}
 use Rattle.flows.proofs.grow.push.Goals as goal
 
-pub unpass-one-requires : goal.unpass-one-requires
-unpass-one-requires c =
+pub unpass_one-requires : goal.unpass_one-requires
+unpass_one-requires c =
     let m = c.args.memory.now in
     let n = c.args.wires in
     record {
@@ -15,8 +15,8 @@ unpass-one-requires c =
       some = unpass_needs (circuit_of m n) c.requires.ordered (bars_of m n) (flow_in m n) c.args.a c.args.b c.requires.step c.if-a-eq0.false c.if-v-w.true;
     }
 
-pub take-back-requires : goal.take-back-requires
-take-back-requires c =
+pub take_back-requires : goal.take_back-requires
+take_back-requires c =
     let m = c.args.memory.now in
     let n = c.args.wires in
     record {
@@ -25,8 +25,8 @@ take-back-requires c =
       some = take_needs (circuit_of m n) c.requires.ordered (bars_of m n) (flow_in m n) c.args.a c.args.b c.requires.step c.if-a-eq0-2.true c.if-v-w.false;
     }
 
-pub send-on-requires : goal.send-on-requires
-send-on-requires c =
+pub send_on-requires : goal.send_on-requires
+send_on-requires c =
     let m = c.args.memory.now in
     let n = c.args.wires in
     record {
@@ -41,25 +41,25 @@ returns-then-a-eq0 c =
     let m = c.args.memory.now in
     let n = c.args.wires in
     changed_to (pass_moved (circuit_of m n) c.requires.ordered (bars_of m n) (flow_in m n) c.args.a c.args.b c.requires.step c.if-a-eq0.true c.if-v-w.true)
-    c.pass-one.ensures
+    c.pass_one.ensures
 
 pub returns-else-a-eq0 : goal.returns-else-a-eq0
 returns-else-a-eq0 c =
     let m = c.args.memory.now in
     let n = c.args.wires in
     changed_to (unpass_moved (circuit_of m n) c.requires.ordered (bars_of m n) (flow_in m n) c.args.a c.args.b c.requires.step c.if-a-eq0.false c.if-v-w.true)
-    c.unpass-one.ensures
+    c.unpass_one.ensures
 
 pub returns-then-a-eq0-2 : goal.returns-then-a-eq0-2
 returns-then-a-eq0-2 c =
     let m = c.args.memory.now in
     let n = c.args.wires in
     changed_to (take_moved (circuit_of m n) c.requires.ordered (bars_of m n) (flow_in m n) c.args.a c.args.b c.requires.step c.if-a-eq0-2.true c.if-v-w.false)
-    c.take-back.ensures
+    c.take_back.ensures
 
 pub returns-else-a-eq0-2 : goal.returns-else-a-eq0-2
 returns-else-a-eq0-2 c =
     let m = c.args.memory.now in
     let n = c.args.wires in
     changed_to (send_moved (circuit_of m n) c.requires.ordered (bars_of m n) (flow_in m n) c.args.a c.args.b c.requires.step c.if-a-eq0-2.false c.if-v-w.false)
-    c.send-on.ensures
+    c.send_on.ensures

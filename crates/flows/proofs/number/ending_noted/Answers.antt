@@ -17,8 +17,8 @@ module _ (c : goal.After-get-before) where
       c.get-before.ensures ∙ ap (cell c.args.memory.now c.args.wires 19) c.get-w.ensures
       ∙ c.requires.endings.sums (cell c.args.memory.now c.args.wires 18 c.args.i) (ended_at c.args.wires c.args.memory.now c.requires.room c.requires.ordered c.requires.flows c.requires.endings c.args.i c.requires.some).within
 
-pub overflow-sub-result : goal.overflow-sub-result
-overflow-sub-result c = omega (arith, sum_is c, (ended_at c.args.wires c.args.memory.now c.requires.room c.requires.ordered c.requires.flows c.requires.endings c.args.i c.requires.some).number)
+pub overflow_sub-result : goal.overflow_sub-result
+overflow_sub-result c = omega (arith, sum_is c, (ended_at c.args.wires c.args.memory.now c.requires.room c.requires.ordered c.requires.flows c.requires.endings c.args.i c.requires.some).number)
 
 pub returns : goal.returns
 returns c =

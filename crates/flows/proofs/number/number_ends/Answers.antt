@@ -5,8 +5,8 @@ use Rattle.flows.proofs.Units.{sum_more}
 use Rattle.flows.proofs.Endings.{ended_more, count_is, total_fits}
 use Rattle.flows.proofs.number.number_ends.Goals as goal
 
-pub overflow-add-next : goal.overflow-add-next
-overflow-add-next c =
+pub overflow_add-next : goal.overflow_add-next
+overflow_add-next c =
     omega (
       arith,
       total_fits c.args.wires c.args.memory.now c.loop-w.memory c.put.new.memory c.loop-w.w c.loop-w.total c.get.result
@@ -15,8 +15,8 @@ overflow-add-next c =
       c.requires.room.few,
     )
 
-pub overflow-cast-total : goal.overflow-cast-total
-overflow-cast-total c =
+pub overflow_cast-total : goal.overflow_cast-total
+overflow_cast-total c =
     omega (
       arith,
       total_fits c.args.wires c.args.memory.now c.loop-w.memory c.put.new.memory c.loop-w.w c.loop-w.total c.get.result
@@ -25,8 +25,8 @@ overflow-cast-total c =
       c.requires.room.few,
     )
 
-pub overflow-cast-next : goal.overflow-cast-next
-overflow-cast-next c =
+pub overflow_cast-next : goal.overflow_cast-next
+overflow_cast-next c =
     omega (
       arith,
       total_fits c.args.wires c.args.memory.now c.loop-w.memory c.put.new.memory c.loop-w.w c.loop-w.total c.get.result
@@ -35,8 +35,8 @@ overflow-cast-next c =
       c.requires.room.few,
     )
 
-pub mark-ends-requires : goal.mark-ends-requires
-mark-ends-requires c =
+pub mark_ends-requires : goal.mark_ends-requires
+mark_ends-requires c =
     record {
       room = record { few = c.requires.room.few; rows = omega (arith, c.requires.room.rows, c.loop-w.auto.memory, c.put.auto.memory) };
       order = omega arith;
@@ -53,9 +53,9 @@ loop-w-preserved c =
     let ec : c.get.result ≡ (flow_in c.args.memory.now c.args.wires).finish c.loop-w.w =
     count_is c.args.wires c.args.memory.now c.loop-w.memory c.put.new.memory c.loop-w.w c.loop-w.total c.get.result
     c.loop-w-test.true c.loop-w.invariant.0 c.put.ensures c.get.ensures in (
-      ended_more c.args.wires c.args.memory.now c.loop-w.memory c.mark-ends.new.memory c.loop-w.w c.loop-w.total c.get.result
+      ended_more c.args.wires c.args.memory.now c.loop-w.memory c.mark_ends.new.memory c.loop-w.w c.loop-w.total c.get.result
           (record { few = c.requires.room.few; rows = omega (arith, c.requires.room.rows, c.loop-w.auto.memory) })
           c.loop-w-test.true c.loop-w.invariant.0 c.loop-w.invariant.1 ec
-          (subst (λ m. Marked c.args.wires m c.mark-ends.new.memory c.loop-w.total (c.loop-w.total + c.get.result) c.loop-w.w) c.put.ensures c.mark-ends.ensures),
+          (subst (λ m. Marked c.args.wires m c.mark_ends.new.memory c.loop-w.total (c.loop-w.total + c.get.result) c.loop-w.w) c.put.ensures c.mark_ends.ensures),
       omega (arith, c.loop-w.invariant.1, ec, sum_more (flow_in c.args.memory.now c.args.wires).finish c.loop-w.w),
     )

@@ -9,8 +9,8 @@ use Rattle.flows.proofs.Kept.{circuit_kept, flow_kept}
 use Rattle.flows.proofs.Numbers.{first_to_few, numbering_more, numbers_now}
 use Rattle.flows.proofs.number.number_wires.Goals as goal
 
-pub number-wire-requires : goal.number-wire-requires
-number-wire-requires c =
+pub number_wire-requires : goal.number_wire-requires
+number_wire-requires c =
     let m = c.args.memory.now in
     let n = c.args.wires in
     record {
@@ -29,4 +29,4 @@ number-wire-requires c =
 
 pub loop-w-preserved : goal.loop-w-preserved
 loop-w-preserved c =
-    numbering_more c.args.wires c.args.memory.now c.loop-w.memory c.number-wire.new.memory c.loop-w.w c.loop-w.invariant c.number-wire.ensures
+    numbering_more c.args.wires c.args.memory.now c.loop-w.memory c.number_wire.new.memory c.loop-w.w c.loop-w.invariant c.number_wire.ensures

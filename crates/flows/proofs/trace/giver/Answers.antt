@@ -3,9 +3,9 @@ use Rattle.flows.specs.Kept.{flow_in}
 use Rattle.flows.proofs.Units.{total_read, gives_read}
 use Rattle.flows.proofs.trace.giver.Goals as goal
 
-pub overflow-sub-rest : goal.overflow-sub-rest
+pub overflow_sub-rest : goal.overflow_sub-rest
 unfolding flow_in
-overflow-sub-rest c = omega (arith, c.requires.later, c.get.ensures)
+overflow_sub-rest c = omega (arith, c.requires.later, c.get.ensures)
 
 pub slot-requires : goal.slot-requires
 unfolding flow_in

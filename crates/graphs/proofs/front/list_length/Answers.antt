@@ -6,4 +6,4 @@ use Rattle.graphs.proofs.front.list_length.Goals as goal
 pub returns : goal.returns
 returns c =
     let n = c.args.wires in
-    omega (arith, list_long n (front_of n c.args.memory.now) c.args.wire, c.saturating-sub.ensures, c.min-end.ensures, c.next-begin.ensures, c.read.ensures)
+    omega (arith, list_long n (front_of n c.args.memory.now) c.args.wire, c.saturating_sub.ensures, c.min-end.ensures, c.next_begin.ensures, c.read.ensures)

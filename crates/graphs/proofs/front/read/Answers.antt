@@ -3,8 +3,8 @@ use Rattle.rows.proofs.Cells.{rows_apart, cell_at}
 use Rattle.graphs.proofs.Fronts.{cell_in_front}
 use Rattle.graphs.proofs.front.read.Goals as goal
 
-pub offset-bounds-memory-row : goal.offset-bounds-memory-row
-offset-bounds-memory-row c = omega (arith, rows_apart c.args.wires c.args.row 13 c.requires.row, c.requires.wire, c.requires.few)
+pub offset_bounds-memory-row : goal.offset_bounds-memory-row
+offset_bounds-memory-row c = omega (arith, rows_apart c.args.wires c.args.row 13 c.requires.row, c.requires.wire, c.requires.few)
 
 pub bounds-memory-row : goal.bounds-memory-row
 bounds-memory-row c = omega (arith, rows_apart c.args.wires c.args.row 13 c.requires.row, c.requires.wire, c.requires.room)

@@ -8,7 +8,7 @@ returns-then-i-eq1 c =
     let n = c.args.wires in
     let w = c.args.wire in
     c.back.ensures
-    ∙ (λ j. back_to n (2 * w) (c.comes-first-come.ensures j) (c.read.ensures j))
+    ∙ (λ j. back_to n (2 * w) (c.comes_first-come.ensures j) (c.read.ensures j))
     ∙ sym (ap (λ k. get_or (entry_steps (front_of n c.args.memory.now) n (2 * w) w) k 0) c.if-i-eq1.true)
 
 pub returns : goal.returns
@@ -17,5 +17,5 @@ returns c =
     let w = c.args.wire in
     let third : c.args.i ≡ 2 = omega (arith, c.requires.within, c.if-i-eq0.false, c.if-i-eq1.false) in
     c.back-2.ensures
-    ∙ (λ j. back_to n (2 * w) (c.comes-second-come.ensures j) (c.read-2.ensures j))
+    ∙ (λ j. back_to n (2 * w) (c.comes_second-come.ensures j) (c.read-2.ensures j))
     ∙ sym (ap (λ k. get_or (entry_steps (front_of n c.args.memory.now) n (2 * w) w) k 0) third)

@@ -10,6 +10,6 @@ returns c =
     let m = c.args.memory.now in
     let p = c.args.place.0 in
     let f = take (size n t) m in
-    let is : c.saturating-sub.result ≡ stop n t f p - start n f p =
-    omega (arith, c.saturating-sub.ensures, c.min.ensures, start_in n t m p c.requires.inside, stop_in n t m p c.requires.inside) in
+    let is : c.saturating_sub.result ≡ stop n t f p - start n f p =
+    omega (arith, c.saturating_sub.ensures, c.min.ensures, start_in n t m p c.requires.inside, stop_in n t m p c.requires.inside) in
     is ∙ sym (degree_is n t f p c.requires.inside)

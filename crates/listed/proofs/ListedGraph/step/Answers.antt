@@ -3,13 +3,13 @@ use Rattle.std.proofs.lemmas.Bool.{cond_below, cond_above}
 use Rattle.listed.specs.Listing.{target_in, step_in}
 use Rattle.listed.proofs.ListedGraph.step.Goals as goal
 
-pub overflow-add-target-2 : goal.overflow-add-target-2
-overflow-add-target-2 c =
+pub overflow_add-target-2 : goal.overflow_add-target-2
+overflow_add-target-2 c =
     let s = c.args.self.now in
     omega (arith, target_in s.places s.targets c.args.memory.now c.args.place.0 c.requires.inside c.args.i c.requires.within, s.few)
 
-pub overflow-add-target-3 : goal.overflow-add-target-3
-overflow-add-target-3 c =
+pub overflow_add-target-3 : goal.overflow_add-target-3
+overflow_add-target-3 c =
     let s = c.args.self.now in
     omega (arith, target_in s.places s.targets c.args.memory.now c.args.place.0 c.requires.inside c.args.i c.requires.within, s.few)
 

@@ -5,22 +5,22 @@ use Rattle.plannings.specs.Ready.{Turned, bare}
 use Rattle.plannings.proofs.Barring.{wire_in, bars_few, bar_unknown, bar_again, bar_done}
 use Rattle.plannings.proofs.bars.bar.Goals as goal
 
-pub returns-then-not-is-produced : goal.returns-then-not-is-produced
-returns-then-not-is-produced c = bar_unknown c.args.wires c.args.memory.now c.args.kept.now c.requires.ready c.args.rank (sym c.if-not-is-produced.ensures)
+pub returns-then-not-is_produced : goal.returns-then-not-is_produced
+returns-then-not-is_produced c = bar_unknown c.args.wires c.args.memory.now c.args.kept.now c.requires.ready c.args.rank (sym c.if-not-is_produced.ensures)
 
-pub returns-then-is-barred : goal.returns-then-is-barred
-returns-then-is-barred c =
-    bar_again c.args.wires c.args.memory.now c.args.kept.now c.requires.ready c.args.rank (sym c.if-not-is-produced.ensures) (sym c.if-is-barred.ensures)
+pub returns-then-is_barred : goal.returns-then-is_barred
+returns-then-is_barred c =
+    bar_again c.args.wires c.args.memory.now c.args.kept.now c.requires.ready c.args.rank (sym c.if-not-is_produced.ensures) (sym c.if-is_barred.ensures)
 
 pub rebar-requires : goal.rebar-requires
 rebar-requires c =
     record {
       room = c.requires.ready.room;
-      wire = wire_in c.args.wires c.args.memory.now c.args.kept.now c.requires.ready c.args.rank (sym c.if-not-is-produced.ensures);
+      wire = wire_in c.args.wires c.args.memory.now c.args.kept.now c.requires.ready c.args.rank (sym c.if-not-is_produced.ensures);
     }
 
-pub overflow-add-kept : goal.overflow-add-kept
-overflow-add-kept c =
+pub overflow_add-kept : goal.overflow_add-kept
+overflow_add-kept c =
     let k = bars_few c.args.wires c.args.memory.now c.args.kept.now c.requires.ready c.args.rank in
     search rules
 
@@ -28,4 +28,4 @@ pub returns : goal.returns
 returns c =
     subst (λ q. Turned c.args.wires c.args.memory.now c.args.kept.now (bare (call.Bar c.args.rank) answer.Done) c.rebar.new.memory q) (sym c.opened.ensures)
     (bar_done c.args.wires c.args.memory.now c.args.kept.now c.requires.ready c.args.rank c.rebar.new.memory c.rebar.auto.memory
-    (sym c.if-not-is-produced.ensures) (sym c.if-is-barred.ensures) c.rebar.ensures)
+    (sym c.if-not-is_produced.ensures) (sym c.if-is_barred.ensures) c.rebar.ensures)

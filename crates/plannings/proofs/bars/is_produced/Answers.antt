@@ -8,7 +8,7 @@ use Rattle.plannings.proofs.bars.is_produced.Goals as goal
 
 pub returns-then-wire-wires : goal.returns-then-wire-wires
 returns-then-wire-wires c =
-    c.is-made.ensures ∙ ap produced c.held.ensures ∙ sym (produced_is (circuit_of c.args.memory.now c.args.wires) c.args.rank)
+    c.is_made.ensures ∙ ap produced c.held.ensures ∙ sym (produced_is (circuit_of c.args.memory.now c.args.wires) c.args.rank)
 
 pub returns-else-wire-wires : goal.returns-else-wire-wires
 returns-else-wire-wires c =

@@ -5,4 +5,4 @@ use Rattle.plannings.proofs.plan.plan.Goals as goal
 pub returns : goal.returns
 returns c =
     plan_done c.args.wires c.args.memory.now c.args.kept c.requires.ready c.args.out.now c.in-Closed.is (omega arith)
-    c.write-plan.result c.write-plan.new.out c.write-plan.auto.out c.write-plan.ensures
+    c.write_plan.result c.write_plan.new.out c.write_plan.auto.out c.write_plan.ensures

@@ -10,5 +10,5 @@ returns-then-out-wires c =
 pub returns : goal.returns
 returns c =
     route_done c.args.wires c.args.memory.now c.args.kept c.requires.ready c.args.out.now c.args.index state.Blocked c.requires.blocked refl (omega arith) (omega arith)
-    c.args.kept.height c.copy-barred.new.out (barred_short c.args.wires c.args.memory.now c.args.kept c.requires.ready c.args.out.now c.requires.blocked)
-    c.copy-barred.auto.out c.copy-barred.ensures.rest c.copy-barred.ensures.row
+    c.args.kept.height c.copy_barred.new.out (barred_short c.args.wires c.args.memory.now c.args.kept c.requires.ready c.args.out.now c.requires.blocked)
+    c.copy_barred.auto.out c.copy_barred.ensures.rest c.copy_barred.ensures.row

@@ -7,7 +7,7 @@ pub returns : goal.returns
 returns c =
     record {
       row =
-          copied_front c.args.height (14 * c.args.wires) c.copy-from-slice.new.self _ (drop (14 * c.args.wires) c.args.memory.now) c.copy-from-slice.ensures.after
+          copied_front c.args.height (14 * c.args.wires) c.copy_from_slice.new.self _ (drop (14 * c.args.wires) c.args.memory.now) c.copy_from_slice.ensures.after
           (omega (arith, length-drop (14 * c.args.wires) c.args.memory.now, c.requires.room.rows));
       rest = search (rules, overwrites);
     }

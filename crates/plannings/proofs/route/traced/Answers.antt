@@ -7,8 +7,8 @@ pub returns-then-out-wires : goal.returns-then-out-wires
 returns-then-out-wires c =
     route_short c.args.wires c.args.memory.now c.args.kept c.requires.ready c.args.out.now c.args.index state.Closed c.requires.closed refl (omega arith) (omega arith)
 
-pub trace-noted-requires : goal.trace-noted-requires
-trace-noted-requires c =
+pub trace_noted-requires : goal.trace_noted-requires
+trace_noted-requires c =
     let h = c.requires.ready in
     record {
       room = h.room;
@@ -23,4 +23,4 @@ trace-noted-requires c =
 pub returns : goal.returns
 returns c =
     route_done c.args.wires c.args.memory.now c.args.kept c.requires.ready c.args.out.now c.args.index state.Closed c.requires.closed refl (omega arith) (omega arith)
-    c.trace-noted.result c.trace-noted.new.out c.trace-noted.ensures.short c.trace-noted.auto.out c.trace-noted.ensures.rest c.trace-noted.ensures.traced
+    c.trace_noted.result c.trace_noted.new.out c.trace_noted.ensures.short c.trace_noted.auto.out c.trace_noted.ensures.rest c.trace_noted.ensures.traced

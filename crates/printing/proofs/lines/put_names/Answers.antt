@@ -8,12 +8,12 @@ use Rattle.printing.proofs.lines.put_names.Goals as goal
 pub loop-rank-init : goal.loop-rank-init
 loop-rank-init c = laid_none c.args.keep c.args.out.now c.args.at
 
-pub put-line-on-requires : goal.put-line-on-requires
-put-line-on-requires c =
+pub put_line-on-requires : goal.put_line-on-requires
+put_line-on-requires c =
     let es = c.args.table.now in
     let xs = c.args.ranks.now in
     let i = c.loop-rank.rank-index in
-    subst (λ n. Room c.args.keep c.loop-rank.out c.loop-rank.on (decimal n ++ (10 ∷ []))) (sym c.name-of.ensures)
+    subst (λ n. Room c.args.keep c.loop-rank.out c.loop-rank.on (decimal n ++ (10 ∷ []))) (sym c.name_of.ensures)
     (room_next c.args.keep c.args.out.now c.args.at (named es xs) c.requires (named es (take i xs)) (line es (get_or xs i 0)) (named es (drop (i + 1) xs))
     (named_at es xs i c.loop-rank-test.true) _ _ c.loop-rank.invariant)
 
@@ -24,7 +24,7 @@ loop-rank-preserved c =
     let i = c.loop-rank.rank-index in
     laid_next c.args.keep c.args.out.now c.args.at (named es xs) c.requires (named es (take i xs)) (line es (get_or xs i 0)) (named es (drop (i + 1) xs))
     (named_at es xs i c.loop-rank-test.true) _ _ c.loop-rank.invariant _ _
-    (subst (λ n. Laid c.args.keep c.loop-rank.out c.loop-rank.on (decimal n ++ (10 ∷ [])) c.put-line-on.new.out c.put-line-on.result) c.name-of.ensures c.put-line-on.ensures)
+    (subst (λ n. Laid c.args.keep c.loop-rank.out c.loop-rank.on (decimal n ++ (10 ∷ [])) c.put_line-on.new.out c.put_line-on.result) c.name_of.ensures c.put_line-on.ensures)
     _ (named_more es xs i c.loop-rank-test.true)
 
 pub returns : goal.returns

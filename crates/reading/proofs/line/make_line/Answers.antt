@@ -14,7 +14,7 @@ use Rattle.reading.proofs.Stand.{Stands}
 use Rattle.reading.proofs.Sides.{Inner, Ready, ins, in_stop, outs, row, side_run, sides, sides_all, run_done, ready_next}
 use Rattle.reading.proofs.Walk.{closing, in_row, past_row, next_ok, hit, asks_out, puts_out, turn_out, turn_in, passed_right, begins}
 use Rattle.reading.proofs.line.make_line.Goals as goal
-use Rattle.reading.proofs.line.make_line.Goals.{then-takes-two, else-takes-two, in-In, in-Out, in-In-side, in-Out-side, else-line-test, then-line-test+then-loop-i-test+then-is-refused, Left-line}
+use Rattle.reading.proofs.line.make_line.Goals.{then-takes_two, else-takes_two, in-In, in-Out, in-In-side, in-Out-side, else-line-test, then-line-test+then-loop-i-test+then-is_refused, Left-line}
 
 -- the circuit reader finds both
 side_finder : (s : Side) → Circuit ≡ finder (side_refusal s)
@@ -30,17 +30,17 @@ line-init c =
     let count = length c.args.table.now in
     let g = c.args.line in
     let before = take c.args.made c.args.table.now in
-    let text_is : c.if-takes-two.right.text ≡ c.args.start.now.text =
-    elim c.if-takes-two.branch [
-      | then-takes-two w ↦ ap (λ r. r.text) w.right-is ∙ w.pass-numbers.ensures.text
-      | else-takes-two w ↦ ap (λ r. r.text) w.right-is
+    let text_is : c.if-takes_two.right.text ≡ c.args.start.now.text =
+    elim c.if-takes_two.branch [
+      | then-takes_two w ↦ ap (λ r. r.text) w.right-is ∙ w.pass_numbers.ensures.text
+      | else-takes_two w ↦ ap (λ r. r.text) w.right-is
     ] in
-    let other : two g.rule.making ≡ true → Stands text (ins text count g before) (in_stop text count g before) (length (outs text count g before) + 0) c.if-takes-two.right.at =
-    elim c.if-takes-two.branch [
-      | then-takes-two w ↦ λ y. subst (λ x. Stands text (ins text count g before) (in_stop text count g before) (length (outs text count g before) + 0) x) (sym (ap (λ r. r.at) w.right-is)) (passed_right text count g before c.requires.whole w.pass-numbers.result c.args.start.now.at w.pass-numbers.new.self.at c.requires.here w.pass-numbers.ensures.result y)
-      | else-takes-two w ↦ λ y. absurd (both_ways _ (sym c.takes-two.ensures ∙ w.if-takes-two.false) y)
+    let other : two g.rule.making ≡ true → Stands text (ins text count g before) (in_stop text count g before) (length (outs text count g before) + 0) c.if-takes_two.right.at =
+    elim c.if-takes_two.branch [
+      | then-takes_two w ↦ λ y. subst (λ x. Stands text (ins text count g before) (in_stop text count g before) (length (outs text count g before) + 0) x) (sym (ap (λ r. r.at) w.right-is)) (passed_right text count g before c.requires.whole w.pass_numbers.result c.args.start.now.at w.pass_numbers.new.self.at c.requires.here w.pass_numbers.ensures.result y)
+      | else-takes_two w ↦ λ y. absurd (both_ways _ (sym c.takes_two.ensures ∙ w.if-takes_two.false) y)
     ] in
-    (refl, refl, refl, text_is, begins text count g before c.requires.whole c.args.made c.args.start.now.at c.if-takes-two.right.at c.args.table.now c.args.ranks.now refl refl c.requires.keeps c.requires.here other, sides_all text count g before)
+    (refl, refl, refl, text_is, begins text count g before c.requires.whole c.args.made c.args.start.now.at c.if-takes_two.right.at c.args.table.now c.args.ranks.now refl refl c.requires.keeps c.requires.here other, sides_all text count g before)
 
 counts : (c : goal.Joined-side) → c.match-side.count ≡ count_of c.args.line (get_or both c.line.side-index In)
 counts c =
@@ -64,8 +64,8 @@ reread-wire-requires c =
     let lt = in_row c.args.start.now.text.now (length c.args.table.now) c.args.line (take c.args.made c.line.table) c.requires.whole 0 0 c.loop-i.i 0 0 0 [] [] (get_or both c.line.side-index In) c.match-side.count c.loop-i.invariant.6 c.loop-i-test.true in
     ap (λ r. is_ok (number_at r.now c.loop-i.wires.at)) c.loop-i.invariant.1 ∙ next_ok _ _ _ _ _ _ _ _ _ _ _ _ _ c.loop-i.invariant.4 lt
 
-pub take-making-made-of-requires : goal.take-making-made-of-requires
-take-making-made-of-requires c =
+pub take_making-made_of-requires : goal.take_making-made_of-requires
+take_making-made_of-requires c =
     let lt = in_row c.args.start.now.text.now (length c.args.table.now) c.args.line (take c.args.made c.line.table) c.requires.whole 0 0 c.loop-i.i 0 0 0 [] [] (get_or both c.line.side-index In) c.match-side.count c.loop-i.invariant.6 c.loop-i-test.true in
     let a = asks_out _ _ _ _ c.requires.whole _ _ _ _ _ _ _ _ _ c.in-Out-side.is c.loop-i.invariant.4 lt in
     record { left = ap (λ r. is_ok (number_at r.now c.loop-i.left.at)) c.loop-i.invariant.2 ∙ a.0; right = λ y. ap (λ r. is_ok (number_at r.now c.loop-i.right.at)) c.loop-i.invariant.3 ∙ a.1 y }
@@ -73,13 +73,13 @@ take-making-made-of-requires c =
 pub put-requires : goal.put-requires
 put-requires c =
     let lt = in_row c.args.start.now.text.now (length c.args.table.now) c.args.line (take c.args.made c.line.table) c.requires.whole 0 0 c.loop-i.i 0 0 0 [] [] (get_or both c.line.side-index In) c.match-side.count c.loop-i.invariant.6 c.loop-i-test.true in
-    let a = puts_out _ _ _ _ c.requires.whole _ _ _ _ _ _ _ _ _ c.in-Out-side.is c.loop-i.invariant.4 lt c.reread-wire.result c.reread-wire.new.cursor.at (c.reread-wire.ensures.value ∙ ap (λ r. number_at r.now c.loop-i.wires.at) c.loop-i.invariant.1) (sym c.if-is-refused.ensures) in
+    let a = puts_out _ _ _ _ c.requires.whole _ _ _ _ _ _ _ _ _ c.in-Out-side.is c.loop-i.invariant.4 lt c.reread-wire.result c.reread-wire.new.cursor.at (c.reread-wire.ensures.value ∙ ap (λ r. number_at r.now c.loop-i.wires.at) c.loop-i.invariant.1) (sym c.if-is_refused.ensures) in
     record { row = a.0; named = a.1 }
 
-pub overflow-add-next : goal.overflow-add-next
-overflow-add-next c =
+pub overflow_add-next : goal.overflow_add-next
+overflow_add-next c =
     let lt = in_row c.args.start.now.text.now (length c.args.table.now) c.args.line (take c.args.made c.line.table) c.requires.whole 0 0 c.loop-i.i 0 0 0 [] [] (get_or both c.line.side-index In) c.match-side.count c.loop-i.invariant.6 c.loop-i-test.true in
-    let a = puts_out _ _ _ _ c.requires.whole _ _ _ _ _ _ _ _ _ c.in-Out-side.is c.loop-i.invariant.4 lt c.reread-wire.result c.reread-wire.new.cursor.at (c.reread-wire.ensures.value ∙ ap (λ r. number_at r.now c.loop-i.wires.at) c.loop-i.invariant.1) (sym c.if-is-refused.ensures) in
+    let a = puts_out _ _ _ _ c.requires.whole _ _ _ _ _ _ _ _ _ c.in-Out-side.is c.loop-i.invariant.4 lt c.reread-wire.result c.reread-wire.new.cursor.at (c.reread-wire.ensures.value ∙ ap (λ r. number_at r.now c.loop-i.wires.at) c.loop-i.invariant.1) (sym c.if-is_refused.ensures) in
     omega (arith, a.0, c.requires.small, c.loop-i.invariant.4.size)
 
 pub loop-i-preserved : goal.loop-i-preserved
@@ -89,14 +89,14 @@ loop-i-preserved c =
     let text = c.args.start.now.text.now in
     elim c.match-side-2.branch [
       | in-In-side w ↦
-          let t = turn_in _ _ _ _ c.requires.whole _ _ _ _ _ _ _ _ _ w.in-In-side.is c.loop-i.invariant.4 lt c.reread-wire.result c.reread-wire.new.cursor.at read (sym c.if-is-refused.ensures) c.match-side-2.next c.match-side-2.left.at c.match-side-2.right.at c.match-side-2.table c.match-side-2.ranks w.table-is w.ranks-is w.next-is (ap (λ r. r.at) w.left-is) (ap (λ r. r.at) w.right-is) in
+          let t = turn_in _ _ _ _ c.requires.whole _ _ _ _ _ _ _ _ _ w.in-In-side.is c.loop-i.invariant.4 lt c.reread-wire.result c.reread-wire.new.cursor.at read (sym c.if-is_refused.ensures) c.match-side-2.next c.match-side-2.left.at c.match-side-2.right.at c.match-side-2.table c.match-side-2.ranks w.table-is w.ranks-is w.next-is (ap (λ r. r.at) w.left-is) (ap (λ r. r.at) w.right-is) in
           (c.loop-i.invariant.0, c.reread-wire.ensures.text ∙ c.loop-i.invariant.1, ap (λ r. r.text) w.left-is ∙ c.loop-i.invariant.2, ap (λ r. r.text) w.right-is ∙ c.loop-i.invariant.3, t.0, t.1 _ ∙ c.loop-i.invariant.5, c.loop-i.invariant.6)
       | in-Out-side w ↦
-          let took = w.take-making-made-of.ensures in
+          let took = w.take_making-made_of.ensures in
           let making = took.making ∙ ap (λ r. making_in c.args.line.rule.making c.loop-i.ranks (got (number_at r.now c.loop-i.left.at)).0.value (cond (two c.args.line.rule.making) (got (number_at c.loop-i.right.text.now c.loop-i.right.at)).0.value 0)) c.loop-i.invariant.2 ∙ ap (λ r. making_in c.args.line.rule.making c.loop-i.ranks (got (number_at text c.loop-i.left.at)).0.value (cond (two c.args.line.rule.making) (got (number_at r.now c.loop-i.right.at)).0.value 0)) c.loop-i.invariant.3 in
           let lefts = ap (λ r. r.at) w.left-is ∙ took.left.1 ∙ ap (λ r. (got (number_at r.now c.loop-i.left.at)).1) c.loop-i.invariant.2 in
           let rights = ap (λ r. r.at) w.right-is ∙ took.right.1 ∙ ap (λ r. cond (two c.args.line.rule.making) (got (number_at r.now c.loop-i.right.at)).1 c.loop-i.right.at) c.loop-i.invariant.3 in
-          let t = turn_out _ _ _ _ c.requires.whole _ _ _ _ _ _ _ _ _ w.in-Out-side.is c.loop-i.invariant.4 lt c.reread-wire.result c.reread-wire.new.cursor.at read (sym c.if-is-refused.ensures) w.take-making-made-of.result c.match-side-2.next c.match-side-2.left.at c.match-side-2.right.at c.match-side-2.table c.match-side-2.ranks making (w.table-is ∙ w.put.ensures.table) (w.ranks-is ∙ w.put.ensures.ranks) w.next-is lefts rights in
+          let t = turn_out _ _ _ _ c.requires.whole _ _ _ _ _ _ _ _ _ w.in-Out-side.is c.loop-i.invariant.4 lt c.reread-wire.result c.reread-wire.new.cursor.at read (sym c.if-is_refused.ensures) w.take_making-made_of.result c.match-side-2.next c.match-side-2.left.at c.match-side-2.right.at c.match-side-2.table c.match-side-2.ranks making (w.table-is ∙ w.put.ensures.table) (w.ranks-is ∙ w.put.ensures.ranks) w.next-is lefts rights in
           (c.loop-i.invariant.0, c.reread-wire.ensures.text ∙ c.loop-i.invariant.1, ap (λ r. r.text) w.left-is ∙ took.left.0 ∙ c.loop-i.invariant.2, ap (λ r. r.text) w.right-is ∙ took.right.0 ∙ c.loop-i.invariant.3, t.0, t.1 _ ∙ c.loop-i.invariant.5, c.loop-i.invariant.6)
     ]
 
@@ -131,7 +131,7 @@ settled c =
       | else-line-test w ↦
           ap (λ f. closing f es) (w.found-is ∙ c.line.invariant.0) ∙ ap (λ n. Ok (take n c.line-test.table)) w.next-is ∙ ap (λ t. Ok (take c.line.next t)) w.table-is
           ∙ sym (at_drop_all (λ ss. sides text count g before ss (take c.line.next c.line.table)) both c.line.side-index w.line-test.false) ∙ c.line.invariant.5
-      | then-line-test+then-loop-i-test+then-is-refused w ↦
+      | then-line-test+then-loop-i-test+then-is_refused w ↦
           let side = get_or both c.line.side-index In in
           let more = drop (c.line.side-index + 1) both in
           let b = take c.args.made c.line.table in
@@ -139,10 +139,10 @@ settled c =
           let ready = subst (λ ss. Ready text count g before c.args.made c.line.next ss c.line.wires.at c.line.left.at c.line.right.at c.line.table c.line.ranks) (drop_more both c.line.side-index In w.line-test.true) c.line.invariant.4 in
           let lt = in_row text count g b c.requires.whole 0 0 w.loop-i.i 0 0 0 [] [] side w.match-side.count w.loop-i.invariant.6 w.loop-i-test.true in
           let read = w.reread-wire.ensures.value ∙ ap (λ r. number_at r.now w.loop-i.wires.at) w.loop-i.invariant.1 in
-          ap (λ f. closing f es) w.found-is ∙ ap Err (w.fault.ensures (side_finder side ∙ ap finder (sym w.refusal-of.ensures)) w.reread-wire.ensures.line)
-          ∙ ap (λ r. Err (fault_at r.now w.refusal-of.result at)) (w.reread-wire.ensures.text ∙ w.loop-i.invariant.1)
-          ∙ ap (λ n. Err (fault_at text n at)) w.refusal-of.ensures
-          ∙ sym (hit text count g b c.args.made w.loop-i.next w.loop-i.i w.loop-i.wires.at w.loop-i.left.at w.loop-i.right.at w.loop-i.table w.loop-i.ranks side w.loop-i.invariant.4 lt w.reread-wire.result w.reread-wire.new.cursor.at read (sides text count g b more) (sym w.if-is-refused.ensures))
+          ap (λ f. closing f es) w.found-is ∙ ap Err (w.fault.ensures (side_finder side ∙ ap finder (sym w.refusal_of.ensures)) w.reread-wire.ensures.line)
+          ∙ ap (λ r. Err (fault_at r.now w.refusal_of.result at)) (w.reread-wire.ensures.text ∙ w.loop-i.invariant.1)
+          ∙ ap (λ n. Err (fault_at text n at)) w.refusal_of.ensures
+          ∙ sym (hit text count g b c.args.made w.loop-i.next w.loop-i.i w.loop-i.wires.at w.loop-i.left.at w.loop-i.right.at w.loop-i.table w.loop-i.ranks side w.loop-i.invariant.4 lt w.reread-wire.result w.reread-wire.new.cursor.at read (sides text count g b more) (sym w.if-is_refused.ensures))
           ∙ w.loop-i.invariant.5
           ∙ ap (λ x. side_run text count g x side 0 (take c.line.next c.line.table) (sides text count g x more)) ready.front
           ∙ sym (at_drop_more (λ ss. sides text count g before ss (take c.line.next c.line.table)) both c.line.side-index In w.line-test.true) ∙ c.line.invariant.5
@@ -157,7 +157,7 @@ kept c e =
       | else-line-test w ↦
           let ready = subst (λ ss. Ready c.args.start.now.text.now (length c.args.table.now) c.args.line (take c.args.made c.args.table.now) c.args.made c.line.next ss c.line.wires.at c.line.left.at c.line.right.at c.line.table c.line.ranks) (drop_all c.line.side-index both w.line-test.false) c.line.invariant.4 in
           subst (λ n. Keeps n c.line-test.table c.line-test.ranks) (sym w.next-is) (subst (λ t. Keeps c.line.next t c.line-test.ranks) (sym w.table-is) (subst (λ t. Keeps c.line.next c.line.table t) (sym w.ranks-is) ready.1))
-      | then-line-test+then-loop-i-test+then-is-refused w ↦ absurd (some_none w.fault.result (sym w.found-is ∙ e))
+      | then-line-test+then-loop-i-test+then-is_refused w ↦ absurd (some_none w.fault.result (sym w.found-is ∙ e))
     ]
 
 pub returns-in-Some : goal.returns-in-Some

@@ -9,8 +9,8 @@ use Rattle.rows.proofs.HeldCircuit.{circuit_length}
 use Rattle.rows.proofs.Loadings.{countable, counted_same, next_fed, first_few, second_few}
 use Rattle.rows.proofs.load.count_wire.Goals as goal
 
-pub count-use-requires : goal.count-use-requires
-count-use-requires c =
+pub count_use-requires : goal.count_use-requires
+count_use-requires c =
     let m = c.args.memory.now in
     let n = c.args.wires in
     let w = c.args.wire in
@@ -23,8 +23,8 @@ count-use-requires c =
           (first_few ci w r.0 r.1 p n (circuit_length m n c.requires.room) c.requires.wire c.requires.room.few c.requires.ordered);
     }
 
-pub count-use-requires-2 : goal.count-use-requires-2
-count-use-requires-2 c =
+pub count_use-requires-2 : goal.count_use-requires-2
+count_use-requires-2 c =
     let m = c.args.memory.now in
     let n = c.args.wires in
     let w = c.args.wire in
@@ -32,8 +32,8 @@ count-use-requires-2 c =
     let r = c.passed-first.result in
     let p : Passed (at ci w) r.0 r.1 = subst (λ x. Passed x r.0 r.1) c.held.ensures c.passed-first.ensures in
     record {
-      room = room_same n m c.count-use.new.memory c.count-use.auto.memory c.requires.room;
-      operand = countable n c.count-use.new.memory (with_use (fed_below ci w) r.0 w) r.1 (c.count-use.ensures.counted (fed_below ci w) w c.requires.counted)
+      room = room_same n m c.count_use.new.memory c.count_use.auto.memory c.requires.room;
+      operand = countable n c.count_use.new.memory (with_use (fed_below ci w) r.0 w) r.1 (c.count_use.ensures.counted (fed_below ci w) w c.requires.counted)
           (second_few ci w r.0 r.1 p n (circuit_length m n c.requires.room) c.requires.wire c.requires.room.few c.requires.ordered);
     }
 
@@ -46,7 +46,7 @@ returns c =
     let r = c.passed-first.result in
     let p : Passed (at ci w) r.0 r.1 = subst (λ x. Passed x r.0 r.1) c.held.ensures c.passed-first.ensures in
     record {
-      rest = only_then (Between 5 5) n m c.count-use.new.memory c.count-use-2.new.memory c.count-use.ensures.rest c.count-use-2.ensures.rest;
-      counted = counted_same n c.count-use-2.new.memory (with_use (with_use (fed_below ci w) r.0 w) r.1 w) (fed_below ci (w + 1)) (next_fed ci w r.0 r.1 p)
-          (c.count-use-2.ensures.counted (with_use (fed_below ci w) r.0 w) w (c.count-use.ensures.counted (fed_below ci w) w c.requires.counted));
+      rest = only_then (Between 5 5) n m c.count_use.new.memory c.count_use-2.new.memory c.count_use.ensures.rest c.count_use-2.ensures.rest;
+      counted = counted_same n c.count_use-2.new.memory (with_use (with_use (fed_below ci w) r.0 w) r.1 w) (fed_below ci (w + 1)) (next_fed ci w r.0 r.1 p)
+          (c.count_use-2.ensures.counted (with_use (fed_below ci w) r.0 w) w (c.count_use.ensures.counted (fed_below ci w) w c.requires.counted));
     }

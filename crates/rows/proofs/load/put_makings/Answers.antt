@@ -4,7 +4,7 @@ use Rattle.circuits.proofs.Lookups.{nth_within, nth_absent}
 use Rattle.rows.proofs.Loadings.{Copied, copied_more, copied_all}
 use Rattle.rows.proofs.Cells.{room_same}
 use Rattle.rows.proofs.load.put_makings.Goals as goal
-use Rattle.rows.proofs.load.put_makings.Goals.{in-Some, in-default}
+use Rattle.rows.proofs.load.put_makings.Goals.{in-Some, in_default}
 
 none : {A : Type 0} (o : Option A) → ((x : A) → o ≡ Some x → ⊥) → o ≡ None
 none (Some x) not = absurd (not x refl)
@@ -18,9 +18,9 @@ loop-w-preserved g c =
     let within : k < length ms = omega (arith, c.loop-w-test.true, c.requires.wires) in
     elim c.match-making.branch [
       | in-Some v ↦ subst (λ m. Copied n m ms (k + 1)) (sym v.memory-is)
-          (copied_more n c.loop-w.memory v.put-making.new.memory ms k v.in-Some.how c.loop-w.invariant v.put-making.ensures
+          (copied_more n c.loop-w.memory v.put_making.new.memory ms k v.in-Some.how c.loop-w.invariant v.put_making.ensures
           (sym (nth_within ms k Input v.in-Some.how within (sym v.in-Some.ensures))))
-      | in-default v ↦ absurd (nth_absent ms k Input within (sym c.making.ensures ∙ none c.making.result v.in-default.not-Some))
+      | in_default v ↦ absurd (nth_absent ms k Input within (sym c.making.ensures ∙ none c.making.result v.in_default.not-Some))
     ]
 
 pub returns : goal.returns

@@ -14,8 +14,8 @@ loop-v-init c =
     let n = c.args.wires in
     (only_same ListRow n m, spaced_none n m (fed_below (circuit_of m n) n) c.requires.counted, refl)
 
-pub overflow-add-total : goal.overflow-add-total
-overflow-add-total c =
+pub overflow_add-total : goal.overflow_add-total
+overflow_add-total c =
     let n = c.args.wires in
     let A = fed_below (circuit_of c.args.memory.now n) n in
     let m = c.loop-v.memory in

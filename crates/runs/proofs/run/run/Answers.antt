@@ -9,15 +9,15 @@ returns g c =
     let calls = c.args.calls.now in
     let room = c.args.room.now in
     let before = c.args.planning.now in
-    let after = c.run-all.new.planning in
-    let went = c.run-all.ensures.continued in
+    let after = c.run_all.new.planning in
+    let went = c.run_all.ensures.continued in
     record {
       refused = not_refused calls room c.args.answers.now (omega arith) (leb-true (rooms calls) (length room) (sym c.if-not-enough.ensures));
       unaltered = tt;
-      same = c.run-all.ensures.same;
-      rest = c.run-all.ensures.rest;
+      same = c.run_all.ensures.same;
+      rest = c.run_all.ensures.rest;
       lawful =
           lawful (g.P.Planner.circuit before) (g.P.Planner.shows before) (g.P.Planner.shows after)
-          (ran calls c.run-all.new.answers room c.run-all.new.room) went;
+          (ran calls c.run_all.new.answers room c.run_all.new.room) went;
       continued = went;
     }

@@ -3,17 +3,17 @@ use Rattle.runs.specs.declared.calls.Call.TheVariants as call
 use Rattle.runs.proofs.Turns.{next_fits, going_on, gone}
 use Rattle.runs.proofs.run.run_all.Goals as goal
 
-pub overflow-add-at : goal.overflow-add-at
-overflow-add-at g c = omega (arith, next_fits c.args.calls.now c.loop-j.j (call.Bar 0) c.loop-j-test.true, c.loop-j.invariant.at_is, c.room-n.ensures)
+pub overflow_add-at : goal.overflow_add-at
+overflow_add-at g c = omega (arith, next_fits c.args.calls.now c.loop-j.j (call.Bar 0) c.loop-j-test.true, c.loop-j.invariant.at_is, c.room-n.ensures)
 
-pub offset-bounds-room-at : goal.offset-bounds-room-at
-offset-bounds-room-at g c = omega (arith, next_fits c.args.calls.now c.loop-j.j (call.Bar 0) c.loop-j-test.true, c.loop-j.invariant.at_is)
+pub offset_bounds-room-at : goal.offset_bounds-room-at
+offset_bounds-room-at g c = omega (arith, next_fits c.args.calls.now c.loop-j.j (call.Bar 0) c.loop-j-test.true, c.loop-j.invariant.at_is)
 
-pub slice-bounds-one-end : goal.slice-bounds-one-end
-slice-bounds-one-end g c = omega (arith, next_fits c.args.calls.now c.loop-j.j (call.Bar 0) c.loop-j-test.true, c.loop-j.invariant.at_is, c.room-n.ensures)
+pub slice_bounds-one-end : goal.slice_bounds-one-end
+slice_bounds-one-end g c = omega (arith, next_fits c.args.calls.now c.loop-j.j (call.Bar 0) c.loop-j-test.true, c.loop-j.invariant.at_is, c.room-n.ensures)
 
-pub overflow-add-at-in-loop-j : goal.overflow-add-at-in-loop-j
-overflow-add-at-in-loop-j g c = omega (arith, next_fits c.args.calls.now c.loop-j.j (call.Bar 0) c.loop-j-test.true, c.loop-j.invariant.at_is, c.room-n.ensures)
+pub overflow_add-at-in-loop-j : goal.overflow_add-at-in-loop-j
+overflow_add-at-in-loop-j g c = omega (arith, next_fits c.args.calls.now c.loop-j.j (call.Bar 0) c.loop-j-test.true, c.loop-j.invariant.at_is, c.room-n.ensures)
 
 pub loop-j-preserved : goal.loop-j-preserved
 loop-j-preserved g c =

@@ -29,11 +29,11 @@ push-requires g c =
       free = o.free;
     }
 
-pub overflow-add-memory : goal.overflow-add-memory
-overflow-add-memory g c = omega (arith, c.in-Some.ensures.small)
+pub overflow_add-memory : goal.overflow_add-memory
+overflow_add-memory g c = omega (arith, c.in-Some.ensures.small)
 
-pub overflow-add-result : goal.overflow-add-result
-overflow-add-result g c =
+pub overflow_add-result : goal.overflow_add-result
+overflow_add-result g c =
     let t = g.G.Graph.meaning c.args.graph.now in
     let base = c.args.rows.base in
     let n = c.args.rows.count in

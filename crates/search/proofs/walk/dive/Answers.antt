@@ -17,8 +17,8 @@ begun g graph rows seek m place m₁ count room inside free root is =
     began t seek rows.base rows.count m place m₁ room
     (subst (λ x. Inside x (t.steps (take rows.base m))) (sym count) (g.met.G.Graph.inside graph (take rows.base m))) inside free root is
 
-pub at-goal-requires : goal.at-goal-requires
-at-goal-requires g c =
+pub at_goal-requires : goal.at_goal-requires
+at_goal-requires g c =
     let t = g.G.Graph.meaning c.args.graph.now in
     let base = c.args.rows.base in
     let n = c.args.rows.count in
@@ -27,15 +27,15 @@ at-goal-requires g c =
     let w = gone t c.args.seek base n m c.args.place c.push.new.memory b c.loop-height.memory c.loop-height.height c.loop-height.invariant.0 in
     record { base = c.requires.base; count = c.requires.count; stack = w.stack; some = c.loop-height-test.true }
 
-pub returns-then-at-goal : goal.returns-then-at-goal
-returns-then-at-goal g c =
+pub returns-then-at_goal : goal.returns-then-at_goal
+returns-then-at_goal g c =
     let t = g.G.Graph.meaning c.args.graph.now in
     let base = c.args.rows.base in
     let n = c.args.rows.count in
     let m = c.args.memory.now in
     let b = begun g c.args.graph.now c.args.rows c.args.seek m c.args.place c.push.new.memory c.requires.count c.requires.room c.requires.inside c.requires.free c.requires.root c.push.ensures in
     let w = gone t c.args.seek base n m c.args.place c.push.new.memory b c.loop-height.memory c.loop-height.height c.loop-height.invariant.0 in
-    let last = subst (λ f. true ≡ sought c.args.seek (t.goal f) (stacked base n c.loop-height.memory (c.loop-height.height - 1))) w.kept.front c.if-at-goal.ensures in
+    let last = subst (λ f. true ≡ sought c.args.seek (t.goal f) (stacked base n c.loop-height.memory (c.loop-height.height - 1))) w.kept.front c.if-at_goal.ensures in
     record { dived = record { walk = w; some = c.loop-height-test.true; last = sym last }; marked = c.loop-height.invariant.1 }
 
 pub advance-height-requires : goal.advance-height-requires
@@ -65,7 +65,7 @@ loop-height-smaller g c =
     let m = c.args.memory.now in
     let b = begun g c.args.graph.now c.args.rows c.args.seek m c.args.place c.push.new.memory c.requires.count c.requires.room c.requires.inside c.requires.free c.requires.root c.push.ensures in
     let go = going t c.args.seek base n m c.args.place c.push.new.memory b c.loop-height.memory c.loop-height.height c.advance-height.new.memory c.advance-height.result
-    c.requires.inside c.loop-height.invariant.0 c.loop-height.invariant.1 c.loop-height-test.true c.if-at-goal.ensures c.advance-height.ensures in
+    c.requires.inside c.loop-height.invariant.0 c.loop-height.invariant.1 c.loop-height-test.true c.if-at_goal.ensures c.advance-height.ensures in
     go.2
 
 pub loop-height-preserved : goal.loop-height-preserved
@@ -76,7 +76,7 @@ loop-height-preserved g c =
     let m = c.args.memory.now in
     let b = begun g c.args.graph.now c.args.rows c.args.seek m c.args.place c.push.new.memory c.requires.count c.requires.room c.requires.inside c.requires.free c.requires.root c.push.ensures in
     let go = going t c.args.seek base n m c.args.place c.push.new.memory b c.loop-height.memory c.loop-height.height c.advance-height.new.memory c.advance-height.result
-    c.requires.inside c.loop-height.invariant.0 c.loop-height.invariant.1 c.loop-height-test.true c.if-at-goal.ensures c.advance-height.ensures in
+    c.requires.inside c.loop-height.invariant.0 c.loop-height.invariant.1 c.loop-height-test.true c.if-at_goal.ensures c.advance-height.ensures in
     (go.0, go.1)
 
 pub returns : goal.returns

@@ -57,9 +57,9 @@ loop-number-preserved g c =
     let m₂ = c.loop-number.memory in
     let m₃ = c.visit.new.memory in
     let w = c.loop-number.invariant.0 in
-    let v = c.in-default.ensures.dived in (
+    let v = c.in_default.ensures.dived in (
       walked t c.args.seek base n m m₂ m₃ 0 (inside_at g c.args.graph.now n (take base m) c.requires.count) w v,
-      served_more t c.args.seek base n m m₂ m₃ 0 c.args.from c.loop-number.number w v c.loop-number-test.true c.loop-number.invariant.1 c.in-default.ensures.marked,
+      served_more t c.args.seek base n m m₂ m₃ 0 c.args.from c.loop-number.number w v c.loop-number-test.true c.loop-number.invariant.1 c.in_default.ensures.marked,
     )
 
 pub returns : goal.returns

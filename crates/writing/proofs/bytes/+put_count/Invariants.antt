@@ -1,4 +1,4 @@
 use Rattle.writing.proofs.bytes.+put_count.Given as goal
 
-abbrev pub decreases-put-count : goal.decreases-put-count
-decreases-put-count l = l.n
+abbrev pub decreases-put_count : goal.decreases-put_count
+decreases-put_count l = l.n

@@ -7,11 +7,11 @@ use Rattle.writing.proofs.bytes.put_all.Goals as goal
 pub loop-n-init : goal.loop-n-init
 loop-n-init c = laid_none c.args.keep c.args.out.now c.args.at
 
-pub put-spaced-on-requires : goal.put-spaced-on-requires
-put-spaced-on-requires c = room_next c.args.keep c.args.out.now c.args.at (spaced c.args.ns.now) c.requires (spaced (take c.loop-n.n-index c.args.ns.now)) (32 ∷ decimal (get_or c.args.ns.now c.loop-n.n-index 0)) (spaced (drop (c.loop-n.n-index + 1) c.args.ns.now)) (spaced_at c.args.ns.now c.loop-n.n-index c.loop-n-test.true) _ _ c.loop-n.invariant
+pub put_spaced-on-requires : goal.put_spaced-on-requires
+put_spaced-on-requires c = room_next c.args.keep c.args.out.now c.args.at (spaced c.args.ns.now) c.requires (spaced (take c.loop-n.n-index c.args.ns.now)) (32 ∷ decimal (get_or c.args.ns.now c.loop-n.n-index 0)) (spaced (drop (c.loop-n.n-index + 1) c.args.ns.now)) (spaced_at c.args.ns.now c.loop-n.n-index c.loop-n-test.true) _ _ c.loop-n.invariant
 
 pub loop-n-preserved : goal.loop-n-preserved
-loop-n-preserved c = laid_next c.args.keep c.args.out.now c.args.at (spaced c.args.ns.now) c.requires (spaced (take c.loop-n.n-index c.args.ns.now)) (32 ∷ decimal (get_or c.args.ns.now c.loop-n.n-index 0)) (spaced (drop (c.loop-n.n-index + 1) c.args.ns.now)) (spaced_at c.args.ns.now c.loop-n.n-index c.loop-n-test.true) _ _ c.loop-n.invariant _ _ c.put-spaced-on.ensures _ (spaced_more c.args.ns.now c.loop-n.n-index c.loop-n-test.true)
+loop-n-preserved c = laid_next c.args.keep c.args.out.now c.args.at (spaced c.args.ns.now) c.requires (spaced (take c.loop-n.n-index c.args.ns.now)) (32 ∷ decimal (get_or c.args.ns.now c.loop-n.n-index 0)) (spaced (drop (c.loop-n.n-index + 1) c.args.ns.now)) (spaced_at c.args.ns.now c.loop-n.n-index c.loop-n-test.true) _ _ c.loop-n.invariant _ _ c.put_spaced-on.ensures _ (spaced_more c.args.ns.now c.loop-n.n-index c.loop-n-test.true)
 
 pub returns : goal.returns
 returns c = laid_same c.args.keep c.args.out.now c.args.at _ (spaced c.args.ns.now) (ap spaced (take_all c.loop-n.n-index c.args.ns.now c.loop-n-test.false)) _ _ c.loop-n.invariant

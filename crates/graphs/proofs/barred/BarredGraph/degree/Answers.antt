@@ -6,4 +6,4 @@ use Rattle.graphs.proofs.barred.BarredGraph.degree.Goals as goal
 pub returns : goal.returns
 returns c =
     let n = c.args.self.now.wires in
-    c.list-length.ensures ∙ sym (barred_long n (front_of n c.args.memory.now) c.args.place.0 c.requires.inside)
+    c.list_length.ensures ∙ sym (barred_long n (front_of n c.args.memory.now) c.args.place.0 c.requires.inside)

@@ -14,18 +14,18 @@ listed-fed-requires c =
       within = omega (arith, c.requires.within, barred_long n (front_of n c.args.memory.now) c.args.place.0 c.requires.inside);
     }
 
-pub returns-then-is-barred : goal.returns-then-is-barred
-returns-then-is-barred c =
+pub returns-then-is_barred : goal.returns-then-is_barred
+returns-then-is_barred c =
     let n = c.args.self.now.wires in
     let f = front_of n c.args.memory.now in
     sym
     (barred_leads n f c.args.place.0 c.args.i c.listed-fed.result c.requires.inside c.requires.within c.listed-fed.ensures
-    ∙ cond-true _ _ _ (sym c.is-barred.ensures ∙ c.if-is-barred.true))
+    ∙ cond-true _ _ _ (sym c.is_barred.ensures ∙ c.if-is_barred.true))
 
-pub returns-else-is-barred : goal.returns-else-is-barred
-returns-else-is-barred c =
+pub returns-else-is_barred : goal.returns-else-is_barred
+returns-else-is_barred c =
     let n = c.args.self.now.wires in
     let f = front_of n c.args.memory.now in
     sym
     (barred_leads n f c.args.place.0 c.args.i c.listed-fed.result c.requires.inside c.requires.within c.listed-fed.ensures
-    ∙ cond-false _ _ _ (sym c.is-barred.ensures ∙ c.if-is-barred.false))
+    ∙ cond-false _ _ _ (sym c.is_barred.ensures ∙ c.if-is_barred.false))

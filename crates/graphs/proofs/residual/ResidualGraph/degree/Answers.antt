@@ -4,10 +4,10 @@ use Rattle.graphs.proofs.Fronts.{list_long}
 use Rattle.graphs.specs.ResidualSteps.{entry_place, exit_place, exit_long}
 use Rattle.graphs.proofs.residual.ResidualGraph.degree.Goals as goal
 
-pub overflow-add-result : goal.overflow-add-result
-overflow-add-result c =
+pub overflow_add-result : goal.overflow_add-result
+overflow_add-result c =
     let n = c.args.self.now.wires in
-    omega (arith, c.list-length.ensures, list_long n (front_of n c.args.memory.now) c.args.place.wire, c.args.self.now.few)
+    omega (arith, c.list_length.ensures, list_long n (front_of n c.args.memory.now) c.args.place.wire, c.args.self.now.few)
 
 pub returns-in-Entry : goal.returns-in-Entry
 returns-in-Entry c =
@@ -18,4 +18,4 @@ pub returns-in-Exit : goal.returns-in-Exit
 returns-in-Exit c =
     let n = c.args.self.now.wires in
     let f = front_of n c.args.memory.now in
-    omega (arith, ap length (exit_place n f c.args.place c.requires.inside c.in-Exit.is).1, exit_long n f c.args.place.wire, c.list-length.ensures)
+    omega (arith, ap length (exit_place n f c.args.place c.requires.inside c.in-Exit.is).1, exit_long n f c.args.place.wire, c.list_length.ensures)

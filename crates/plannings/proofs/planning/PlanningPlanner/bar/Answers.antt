@@ -9,8 +9,8 @@ bar-requires c =
     let p = c.args.self.now.inner in
     record { ready = ready_of p.wires p.memory.now p.kept c.args.self.now.ready }
 
-pub invariant-of-self : goal.invariant-of-self
-invariant-of-self c =
+pub invariant_of-self : goal.invariant_of-self
+invariant_of-self c =
     let p = c.args.self.now.inner in
     let q = c.bar.new.self in
     (∣ still_ready p.wires q.wires q.memory.now q.kept c.bar.ensures.wires c.bar.ensures.turned.ready ∣₁, tt)

@@ -3,16 +3,16 @@ use Rattle.tokens.specs.Places.{blank}
 use Rattle.tokens.proofs.Scan.{blank_inside}
 use Rattle.tokens.proofs.Moves.{Onward, onward}
 use Rattle.tokens.proofs.cursor.Cursor.skip_blanks.Goals as goal
-use Rattle.tokens.proofs.cursor.Cursor.skip_blanks.Goals.{After-blank-len}
+use Rattle.tokens.proofs.cursor.Cursor.skip_blanks.Goals.{After-blank_len}
 
-on : (c : goal.After-blank-len) → Onward c.args.self.now blank c.blank-len.result
-on c = onward c.args.self.now blank blank_inside _ c.blank-len.ensures
+on : (c : goal.After-blank_len) → Onward c.args.self.now blank c.blank_len.result
+on c = onward c.args.self.now blank blank_inside _ c.blank_len.ensures
 
-pub overflow-add-self : goal.overflow-add-self
-overflow-add-self c = omega (arith, (on c).inside, c.args.self.now.short)
+pub overflow_add-self : goal.overflow_add-self
+overflow_add-self c = omega (arith, (on c).inside, c.args.self.now.short)
 
-pub invariant-of-self : goal.invariant-of-self
-invariant-of-self c = ((on c).inside, (c.args.self.now.short, ((on c).same, tt)))
+pub invariant_of-self : goal.invariant_of-self
+invariant_of-self c = ((on c).inside, (c.args.self.now.short, ((on c).same, tt)))
 
 pub returns : goal.returns
-returns c = record { text = refl; at = ap (λ n. c.args.self.now.at + n) (on (goal.at.returns c).After-blank-len).step; line = refl }
+returns c = record { text = refl; at = ap (λ n. c.args.self.now.at + n) (on (goal.at.returns c).After-blank_len).step; line = refl }
