@@ -54,7 +54,7 @@ pub fn run_calls<C: Circuit>(
 
 // Steps a new planning of so many wires to its end, and writes the earliest smallest plan at the front of the room.
 pub fn finish<P: Planner>(planning: &mut P, wires: u32, room: &mut [u32]) -> Result<usize, Refusal>
-    ensures { Ordered (circuit planning.old) → length (circuit planning.old) ≡ wires → shows planning.old (opened (λ w. false)) → PlansFree (circuit planning.old) false room.old result room.new }
+    ensures { Ordered (P.Planner.circuit planning.old) → length (P.Planner.circuit planning.old) ≡ wires → P.Planner.shows planning.old (opened (λ w. false)) → PlansFree (P.Planner.circuit planning.old) false room.old result room.new }
 {
     // No smallest plan has more wires than the circuit, so the last of these steps closes.
     step_on(planning, wires as usize + 1);

@@ -1,5 +1,5 @@
 -- Cuts without barred wires, the cheapest of them and the earliest of those; and the routes of a flow.
-use Rattle.std.proofs.Common.{◌≡◌, ℕ, zero, suc, ◌+◌, ◌<◌, ◌≤◌, Bool, true, false, cond, not, ◌&&◌, ◌⊎◌, List, [], ◌∷◌, length, IfOk, sym, refl, ap, subst, ap₂, inl, inr, ⊎_elim, arith}
+use Rattle.std.proofs.Common.{◌≡◌, ℕ, zero, suc, ◌+◌, ◌<◌, ◌≤◌, Bool, true, false, cond, not, ◌&&◌, ◌⊎◌, List, [], ◌∷◌, length, sym, refl, ap, subst, ap₂, inl, inr, ⊎_elim, arith}
 use Rattle.std.proofs.ByRecursion.{All-weaker}
 use Rattle.std.proofs.lemmas.Bool.{cases_Bool, cases_lt, and_parts, not-true}
 use Rattle.std.specs.List.{AllByRecursion as All}
@@ -50,7 +50,7 @@ module _ (c : List Making) (ordered : Ordered c) (q : Wires) where
 
 -- a cut of produced wires that are not barred
 pub record FreeCut (c : List Making) (barred p : Wires) : Type 0 where
-  pub IfOk : (w : ℕ) → p w ≡ true → produced (at c w) ≡ true
+  pub made : (w : ℕ) → p w ≡ true → produced (at c w) ≡ true
   pub cut : IsCut c p
   pub free : FreeOf barred p
 

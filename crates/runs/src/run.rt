@@ -13,7 +13,7 @@ use circuits::answer::Refusal;
 // One call, with the room lent to it.
 fn one<P: Planner>(planning: &mut P, call: Call, out: &mut [u32]) -> Answer
     requires { length out.old ≡ room_of call }
-    ensures { Called (circuit planning.old) (shows planning.old) call out.old result out.new (circuit planning.new) (shows planning.new) }
+    ensures { Called (P.Planner.circuit planning.old) (P.Planner.shows planning.old) call out.old result out.new (P.Planner.circuit planning.new) (P.Planner.shows planning.new) }
 {
     match call {
         Call::Bar(rank) => match planning.bar(rank) {
@@ -59,9 +59,9 @@ pub fn enough(calls: &[Call], numbers: usize) -> bool
 // The calls, one after another, each lent the next part of the room.
 fn run_all<P: Planner>(planning: &mut P, calls: &[Call], room: &mut [u32], answers: &mut [Answer])
     requires { (length answers.old ≡ length calls.now) × (rooms calls.now ≤ length room.old) }
-    ensures same { circuit planning.new ≡ circuit planning.old }
+    ensures same { P.Planner.circuit planning.new ≡ P.Planner.circuit planning.old }
     ensures rest { drop (rooms calls.now) room.new ≡ drop (rooms calls.now) room.old }
-    ensures continued { (h : History) → Came (circuit planning.old) (shows planning.old) h → Came (circuit planning.old) (shows planning.new) (ran calls.now answers.new room.old room.new ++ h) }
+    ensures continued { (h : History) → Came (P.Planner.circuit planning.old) (P.Planner.shows planning.old) h → Came (P.Planner.circuit planning.old) (P.Planner.shows planning.new) (ran calls.now answers.new room.old room.new ++ h) }
 {
     let mut at = 0;
     for j in 0..calls.len() {
@@ -83,10 +83,10 @@ pub fn run<P: Planner>(
 ) -> Result<(), Refusal>
     ensures refused { refused_by result ≡ first_fault (run_faults calls.now room.old answers.old) }
     ensures unaltered { IfRefused result ((planning.new ≡ planning.old) × (room.new ≡ room.old) × (answers.new ≡ answers.old)) }
-    ensures same { circuit planning.new ≡ circuit planning.old }
+    ensures same { P.Planner.circuit planning.new ≡ P.Planner.circuit planning.old }
     ensures rest { drop (rooms calls.now) room.new ≡ drop (rooms calls.now) room.old }
-    ensures lawful { IfObeyed result (Ordered (circuit planning.old) → shows planning.old (opened (λ w. false)) → LawfulRun (circuit planning.old) (ran calls.now answers.new room.old room.new)) }
-    ensures continued { IfObeyed result ((h : History) → Came (circuit planning.old) (shows planning.old) h → Came (circuit planning.old) (shows planning.new) (ran calls.now answers.new room.old room.new ++ h)) }
+    ensures lawful { IfObeyed result (Ordered (P.Planner.circuit planning.old) → P.Planner.shows planning.old (opened (λ w. false)) → LawfulRun (P.Planner.circuit planning.old) (ran calls.now answers.new room.old room.new)) }
+    ensures continued { IfObeyed result ((h : History) → Came (P.Planner.circuit planning.old) (P.Planner.shows planning.old) h → Came (P.Planner.circuit planning.old) (P.Planner.shows planning.new) (ran calls.now answers.new room.old room.new ++ h)) }
 {
     if answers.len() != calls.len() {
         return Err(Refusal::MemoryTooShort);

@@ -12,7 +12,7 @@ pub struct Steps {
 
 // Steps until a step does not grow, at most so many times.
 pub fn step_on<P: Planner>(planning: &mut P, most: usize) -> Steps
-    ensures { SteppedOn (circuit planning.old) (shows planning.old) most result (circuit planning.new) (shows planning.new) }
+    ensures { SteppedOn (P.Planner.circuit planning.old) (P.Planner.shows planning.old) most result (P.Planner.circuit planning.new) (P.Planner.shows planning.new) }
 {
     for grown in 0..most {
         let last = Answer::of_step(planning.step());

@@ -17,7 +17,7 @@ pub enum Outcome {
 
 // Marks exactly what steps reach from the chosen places.
 pub fn mark_reached<G: Graph>(graph: &G, memory: &mut [u32]) -> Result<(), Refusal>
-    ensures { MarksReached (meaning graph.now) memory.old memory.new result }
+    ensures { MarksReached (G.Graph.meaning graph.now) memory.old memory.new result }
 {
     let rows = Rows::of(graph, memory)?;
     clear(memory, rows);
@@ -27,7 +27,7 @@ pub fn mark_reached<G: Graph>(graph: &G, memory: &mut [u32]) -> Result<(), Refus
 
 // Looks for a goal from the chosen places, with no place marked before. Where none is reached, exactly what steps reach is marked.
 pub fn find<G: Graph>(graph: &G, memory: &mut [u32]) -> Result<Outcome, Refusal>
-    ensures { Finds (meaning graph.now) memory.old memory.new result }
+    ensures { Finds (G.Graph.meaning graph.now) memory.old memory.new result }
 {
     let rows = Rows::of(graph, memory)?;
     clear(memory, rows);
@@ -36,7 +36,7 @@ pub fn find<G: Graph>(graph: &G, memory: &mut [u32]) -> Result<Outcome, Refusal>
 
 // Looks for a goal through places that are not marked yet, from the chosen places whose numbers are `from` or more.
 pub fn find_further<G: Graph>(graph: &G, memory: &mut [u32], from: u32) -> Result<Outcome, Refusal>
-    ensures { FindsFurther (meaning graph.now) memory.old memory.new from result }
+    ensures { FindsFurther (G.Graph.meaning graph.now) memory.old memory.new from result }
 {
     let rows = Rows::of(graph, memory)?;
     Ok(hunt(graph, memory, rows, true, from))
@@ -48,7 +48,7 @@ pub fn find_or_exhaust<G: Graph>(
     memory: &mut [u32],
     from: u32,
 ) -> Result<Outcome, Refusal>
-    ensures { FindsAny (meaning graph.now) memory.old memory.new from result }
+    ensures { FindsAny (G.Graph.meaning graph.now) memory.old memory.new from result }
 {
     match find_further(graph, memory, from)? {
         Outcome::Nothing => find(graph, memory),

@@ -17,7 +17,7 @@ pub struct Rows {
 impl Rows {
     // Where the rows lie, unless the memory is too short for them.
     pub fn of<G: Graph>(graph: &G, memory: &[u32]) -> Result<Rows, Refusal>
-        ensures { Placed (meaning graph.now) memory.now result }
+        ensures { Placed (G.Graph.meaning graph.now) memory.now result }
     {
         let base = graph.front() as usize;
         let count = graph.count() as usize;
@@ -59,11 +59,11 @@ fn open_step<G: Graph>(
     place: G::Place,
     from: u32,
 ) -> Option<(u32, u32)>
-    requires base { rows.base ≡ (meaning graph.now).extent }
-    requires count { rows.count ≡ (meaning graph.now).many }
+    requires base { rows.base ≡ (G.Graph.meaning graph.now).extent }
+    requires count { rows.count ≡ (G.Graph.meaning graph.now).many }
     requires room { rows.base + 3 * rows.count ≤ length memory.now }
-    requires inside { index graph.now place < (meaning graph.now).many }
-    ensures { MatchOption result (Passed ((meaning graph.now).steps (take rows.base memory.now)) rows.base memory.now (index graph.now place) from (length (row ((meaning graph.now).steps (take rows.base memory.now)) (index graph.now place)))) (λ s. Opens ((meaning graph.now).steps (take rows.base memory.now)) rows.base memory.now (index graph.now place) from s.0 s.1) }
+    requires inside { G.Graph.index graph.now place < (G.Graph.meaning graph.now).many }
+    ensures { MatchOption result (Passed ((G.Graph.meaning graph.now).steps (take rows.base memory.now)) rows.base memory.now (G.Graph.index graph.now place) from (length (row ((G.Graph.meaning graph.now).steps (take rows.base memory.now)) (G.Graph.index graph.now place)))) (λ s. Opens ((G.Graph.meaning graph.now).steps (take rows.base memory.now)) rows.base memory.now (G.Graph.index graph.now place) from s.0 s.1) }
 {
     let degree = graph.degree(memory, place);
     for i in from..degree {
@@ -77,12 +77,12 @@ fn open_step<G: Graph>(
 
 // Makes the next step from the place on top of the stack to an unmarked place, or takes the place off, and answers the stack's new height.
 fn advance<G: Graph>(graph: &G, memory: &mut [u32], rows: Rows, height: u32) -> u32
-    requires base { rows.base ≡ (meaning graph.now).extent }
-    requires count { rows.count ≡ (meaning graph.now).many }
+    requires base { rows.base ≡ (G.Graph.meaning graph.now).extent }
+    requires count { rows.count ≡ (G.Graph.meaning graph.now).many }
     requires few { rows.count < 2 ^ 32 }
     requires stack { Stack rows.base rows.count memory.old height }
     requires some { 0 < height }
-    ensures { Turned ((meaning graph.now).steps (take rows.base memory.old)) rows.base rows.count memory.old height (stacked rows.base rows.count memory.old (height - 1)) memory.new result }
+    ensures { Turned ((G.Graph.meaning graph.now).steps (take rows.base memory.old)) rows.base rows.count memory.old height (stacked rows.base rows.count memory.old (height - 1)) memory.new result }
 {
     let top = memory[rows.base + rows.count + (height as usize - 1)];
     let from = memory[rows.base + rows.count + rows.count + top as usize];
@@ -98,11 +98,11 @@ fn advance<G: Graph>(graph: &G, memory: &mut [u32], rows: Rows, height: u32) -> 
 
 // Whether goals are looked for, and the place on top of the stack is one.
 fn at_goal<G: Graph>(graph: &G, memory: &[u32], rows: Rows, seek: bool, height: u32) -> bool
-    requires base { rows.base ≡ (meaning graph.now).extent }
-    requires count { rows.count ≡ (meaning graph.now).many }
+    requires base { rows.base ≡ (G.Graph.meaning graph.now).extent }
+    requires count { rows.count ≡ (G.Graph.meaning graph.now).many }
     requires stack { Stack rows.base rows.count memory.now height }
     requires some { 0 < height }
-    ensures { result ≡ sought seek ((meaning graph.now).goal (take rows.base memory.now)) (stacked rows.base rows.count memory.now (height - 1)) }
+    ensures { result ≡ sought seek ((G.Graph.meaning graph.now).goal (take rows.base memory.now)) (stacked rows.base rows.count memory.now (height - 1)) }
 {
     seek && graph.is_goal(
         memory,
@@ -112,14 +112,14 @@ fn at_goal<G: Graph>(graph: &G, memory: &[u32], rows: Rows, seek: bool, height: 
 
 // Walks on from the place until the top of the stack is a goal, or the stack is empty again.
 fn dive<G: Graph>(graph: &G, memory: &mut [u32], rows: Rows, seek: bool, place: u32) -> Option<u32>
-    requires base { rows.base ≡ (meaning graph.now).extent }
-    requires count { rows.count ≡ (meaning graph.now).many }
+    requires base { rows.base ≡ (G.Graph.meaning graph.now).extent }
+    requires count { rows.count ≡ (G.Graph.meaning graph.now).many }
     requires few { rows.count < 2 ^ 32 }
     requires room { rows.base + 3 * rows.count ≤ length memory.old }
     requires inside { place < rows.count }
     requires free { mark rows.base memory.old place ≡ 0 }
-    requires root { (meaning graph.now).chosen (take rows.base memory.old) place ≡ true }
-    ensures dived { Dived (meaning graph.now) seek rows.base rows.count memory.old memory.new result }
+    requires root { (G.Graph.meaning graph.now).chosen (take rows.base memory.old) place ≡ true }
+    ensures dived { Dived (G.Graph.meaning graph.now) seek rows.base rows.count memory.old memory.new result }
     ensures marked { 0 < mark rows.base memory.new place }
 {
     push(memory, rows, 0, place);
@@ -141,13 +141,13 @@ fn visit<G: Graph>(
     seek: bool,
     number: u32,
 ) -> Option<u32>
-    requires base { rows.base ≡ (meaning graph.now).extent }
-    requires count { rows.count ≡ (meaning graph.now).many }
+    requires base { rows.base ≡ (G.Graph.meaning graph.now).extent }
+    requires count { rows.count ≡ (G.Graph.meaning graph.now).many }
     requires few { rows.count < 2 ^ 32 }
     requires room { rows.base + 3 * rows.count ≤ length memory.old }
     requires inside { number < rows.count }
-    ensures dived { Dived (meaning graph.now) seek rows.base rows.count memory.old memory.new result }
-    ensures marked { (meaning graph.now).chosen (take rows.base memory.old) number ≡ true → 0 < mark rows.base memory.new number }
+    ensures dived { Dived (G.Graph.meaning graph.now) seek rows.base rows.count memory.old memory.new result }
+    ensures marked { (G.Graph.meaning graph.now).chosen (take rows.base memory.old) number ≡ true → 0 < mark rows.base memory.new number }
 {
     if memory[rows.base + number as usize] == 0 && graph.is_chosen(memory, graph.place(number)) {
         dive(graph, memory, rows, seek, number)
@@ -158,11 +158,11 @@ fn visit<G: Graph>(
 
 // Walks over unmarked places from the chosen places whose numbers are `from` or more, until a goal if any is looked for.
 pub fn hunt<G: Graph>(graph: &G, memory: &mut [u32], rows: Rows, seek: bool, from: u32) -> Outcome
-    requires base { rows.base ≡ (meaning graph.now).extent }
-    requires count { rows.count ≡ (meaning graph.now).many }
+    requires base { rows.base ≡ (G.Graph.meaning graph.now).extent }
+    requires count { rows.count ≡ (G.Graph.meaning graph.now).many }
     requires few { rows.count < 2 ^ 32 }
     requires room { rows.base + 3 * rows.count ≤ length memory.old }
-    ensures { Hunted (meaning graph.now) seek rows.base rows.count memory.old memory.new from result }
+    ensures { Hunted (G.Graph.meaning graph.now) seek rows.base rows.count memory.old memory.new from result }
 {
     for number in from..rows.count as u32 {
         if let Some(height) = visit(graph, memory, rows, seek, number) {

@@ -13,7 +13,7 @@ use circuits::making::Making;
 use lines::{put_gate, put_head};
 
 fn name_at<C: Circuit>(circuit: &C, rank: u32) -> u32
-    ensures { result ≡ name_of (table_of (meaning circuit.now)) rank }
+    ensures { result ≡ name_of (table_of (C.Circuit.meaning circuit.now)) rank }
 {
     match circuit.name(rank) {
         Some(name) => name,
@@ -22,7 +22,7 @@ fn name_at<C: Circuit>(circuit: &C, rank: u32) -> u32
 }
 
 fn making_at<C: Circuit>(circuit: &C, rank: u32) -> Making
-    ensures { result ≡ (entry_at (table_of (meaning circuit.now)) rank).making }
+    ensures { result ≡ (entry_at (table_of (C.Circuit.meaning circuit.now)) rank).making }
 {
     match circuit.making(rank) {
         Some(making) => making,
@@ -39,8 +39,8 @@ fn put_wire<C: Circuit>(
     making: Making,
     name: u32,
 ) -> usize
-    requires { Room keep out.old at (making_text (table_of (meaning circuit.now)) making name) }
-    ensures { Laid keep out.old at (making_text (table_of (meaning circuit.now)) making name) out.new result }
+    requires { Room keep out.old at (making_text (table_of (C.Circuit.meaning circuit.now)) making name) }
+    ensures { Laid keep out.old at (making_text (table_of (C.Circuit.meaning circuit.now)) making name) out.new result }
 {
     match making {
         Making::Input => at,
@@ -68,8 +68,8 @@ fn put_wire<C: Circuit>(
 
 // A line for each wire that is no input.
 fn put_wires<C: Circuit>(out: &mut [u8], keep: bool, at: usize, circuit: &C) -> usize
-    requires { Room keep out.old at (wires_text (table_of (meaning circuit.now)) (drop (meaning circuit.now).inputs (table_of (meaning circuit.now)))) }
-    ensures { Laid keep out.old at (wires_text (table_of (meaning circuit.now)) (drop (meaning circuit.now).inputs (table_of (meaning circuit.now)))) out.new result }
+    requires { Room keep out.old at (wires_text (table_of (C.Circuit.meaning circuit.now)) (drop (C.Circuit.meaning circuit.now).inputs (table_of (C.Circuit.meaning circuit.now)))) }
+    ensures { Laid keep out.old at (wires_text (table_of (C.Circuit.meaning circuit.now)) (drop (C.Circuit.meaning circuit.now).inputs (table_of (C.Circuit.meaning circuit.now)))) out.new result }
 {
     let first = circuit.inputs();
     let further = circuit.wires() - first;
@@ -90,8 +90,8 @@ fn put_wires<C: Circuit>(out: &mut [u8], keep: bool, at: usize, circuit: &C) -> 
 
 // The whole text, from the room's start; only measured where it is not to be kept.
 fn put_text<C: Circuit>(out: &mut [u8], keep: bool, circuit: &C) -> usize
-    requires { Room keep out.old 0 (written (meaning circuit.now)) }
-    ensures { Laid keep out.old 0 (written (meaning circuit.now)) out.new result }
+    requires { Room keep out.old 0 (written (C.Circuit.meaning circuit.now)) }
+    ensures { Laid keep out.old 0 (written (C.Circuit.meaning circuit.now)) out.new result }
 {
     let wires = circuit.wires();
     let inputs = circuit.inputs();
@@ -102,16 +102,16 @@ fn put_text<C: Circuit>(out: &mut [u8], keep: bool, circuit: &C) -> usize
 
 // How many bytes a circuit's text has.
 pub fn text_length<C: Circuit>(circuit: &C) -> usize
-    ensures { result ≡ length (written (meaning circuit.now)) }
+    ensures { result ≡ length (written (C.Circuit.meaning circuit.now)) }
 {
     put_text(&mut [], false, circuit)
 }
 
 // Writes a circuit's text into the room, and answers its length. A room that is too short is refused, and left as it was.
 pub fn write_circuit<C: Circuit>(circuit: &C, room: &mut [u8]) -> Result<usize, Refusal>
-    ensures answer { result ≡ answered (written (meaning circuit.now)) (length room.old) }
-    ensures room { room.new ≡ left (written (meaning circuit.now)) room.old }
-    ensures back { ReadsBack (meaning circuit.now) }
+    ensures answer { result ≡ answered (written (C.Circuit.meaning circuit.now)) (length room.old) }
+    ensures room { room.new ≡ left (written (C.Circuit.meaning circuit.now)) room.old }
+    ensures back { ReadsBack (C.Circuit.meaning circuit.now) }
 {
     let len = text_length(circuit);
     if len > room.len() {

@@ -8,10 +8,10 @@ use Rattle.printing.proofs.print_read.Goals as goal
 pub returns-in_err-header : goal.returns-in_err-header
 returns-in_err-header c =
     let told = c.in_err-header.ensures in
-    let p = err_from_is_err_and c.from-residual.result c.from-residual.ensures.1 in
+    let p = err_from_is_err_and c.from_residual.result c.from_residual.ensures.1 in
     let o = outcome c.args.text.now c.args.limit c.args.table.now c.args.ranks.now in
     let fault = c.in_err-header.field-0.0 in
-    let is : c.from-residual.result ≡ Err fault = p.1 ∙ ap Err p.2 in
+    let is : c.from_residual.result ≡ Err fault = p.1 ∙ ap Err p.2 in
     record {
       printed =
           subst (λ r. PrintsRead o (short_for o (length c.args.memory.now)) c.args.ranks.now c.read_circuit.new.ranks c.args.out.now r c.args.out.now) (sym is)

@@ -11,7 +11,7 @@ use Rattle.reading.proofs.gates.gate_here.Goals as goal
 pub returns-in_err-line : goal.returns-in_err-line
 returns-in_err-line c =
     let told = c.in_err-line.ensures in
-    let p = err_from_is_err_and c.from-residual.result c.from-residual.ensures.1 in
+    let p = err_from_is_err_and c.from_residual.result c.from_residual.ensures.1 in
     record { result = rw (p.1, p.2) (gate_breaks c.args.cursor.now.text.now (length c.args.table.now) (take c.args.made c.args.table.now) c.args.cursor.now.at _ told.result); text = told.text; keeps = rw p.1 tt }
 
 pub returns-then-not-does_suit : goal.returns-then-not-does_suit

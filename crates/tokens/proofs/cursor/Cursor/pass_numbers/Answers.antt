@@ -7,7 +7,7 @@ use Rattle.tokens.proofs.cursor.Cursor.pass_numbers.Goals as goal
 pub returns-in_err-number : goal.returns-in_err-number
 returns-in_err-number c =
     let told = c.in_err-number.ensures in
-    let p = err_from_is_err_and c.from-residual.result c.from-residual.ensures.1 in
+    let p = err_from_is_err_and c.from_residual.result c.from_residual.ensures.1 in
     record {
       result = rw (p.1, p.2) (pass_stops c.args.self.now.text.now c.args.k c.loop-i.i _ _ c.loop-i.invariant.0 c.loop-i-test.true _ (told.result ∙ ap (λ r. number_at r.now c.loop-i.self.at) c.loop-i.invariant.1));
       text = told.text ∙ c.loop-i.invariant.1;

@@ -10,7 +10,7 @@ use Rattle.tokens.proofs.cursor.Cursor.widths.Goals.{then-width-lt1-via-then-wid
 pub returns-in_err-width : goal.returns-in_err-width
 returns-in_err-width c =
     let told = c.in_err-width.ensures in
-    let p = err_from_is_err_and c.from-residual.result c.from-residual.ensures.1 in
+    let p = err_from_is_err_and c.from_residual.result c.from_residual.ensures.1 in
     record {
       result = rw (p.1, p.2) (width_breaks c.args.self.now.text.now c.args.wires c.args.k c.loop-i.i c.loop-i.sum _ _ c.loop-i.invariant.2 c.loop-i-test.true _ (told.result ∙ ap (λ r. number_at r.now c.loop-i.self.at) c.loop-i.invariant.1));
       text = told.text ∙ c.loop-i.invariant.1;
