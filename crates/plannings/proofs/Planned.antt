@@ -67,11 +67,11 @@ module _ (c : List Making) (ordered : Ordered c) where
   grew zero t new_told = record { open_now = refl; no_bars = refl; many = refl; apart = (tt, tt) }
   grew (suc k) t (then_told {s = s} r d) =
       let g : Grew k s = grew k s r in
-      let e = stepped s g.open-now answer.Grown t d in
+      let e = stepped s g.open_now answer.Grown t d in
       let now_is = e.1.3 in
       record {
         open_now = ap (λ t. t.state) now_is;
-        no_bars = ap (λ t. t.bars) now_is ∙ g.no-bars;
+        no_bars = ap (λ t. t.bars) now_is ∙ g.no_bars;
         many = ap (λ t. length t.routes) now_is ∙ e.1.2 ∙ ap (λ n. n + 1) g.many ∙ add-one k;
         apart = subst (λ t. StandApart c t.bars t.routes) (sym now_is) e.1.1;
       }
@@ -82,7 +82,7 @@ module _ (c : List Making) (ordered : Ordered c) where
       omega (
         arith,
         g.many,
-        bound c ordered (λ w. false) the_plan.0 t.routes the_plan.1.cheapest (subst (λ b. StandApart c b t.routes) g.no-bars g.apart),
+        bound c ordered (λ w. false) the_plan.0 t.routes the_plan.1.cheapest (subst (λ b. StandApart c b t.routes) g.no_bars g.apart),
       )
 
   closes : (k : ℕ) (l : Option Answer) (t : Told) → Ended (length c + 1) (record { grown = k; last = l }) l → RunTold c (last_step l ++ replicate k (a_step answer.Grown)) t → Closes t
@@ -92,18 +92,18 @@ module _ (c : List Making) (ordered : Ordered c) where
   closes k (Some answer.Grown) t e (then_told {s = s} r d) = absurd (true≢false e)
   closes k (Some answer.Closed) t e (then_told {s = s} r d) =
       let g : Grew k s = grew k s r in
-      let w = stepped s g.open-now answer.Closed t d in
+      let w = stepped s g.open_now answer.Closed t d in
       record {
         closed_now = ap (λ t. t.state) w.2;
-        no_bars = ap (λ t. t.bars) w.2 ∙ g.no-bars;
+        no_bars = ap (λ t. t.bars) w.2 ∙ g.no_bars;
         many = ap (λ t. length t.routes) w.2
-            ∙ reach c ordered (λ w. false) the_plan.0 s.routes the_plan.1.cheapest (subst (λ b. StandApart c b s.routes) g.no-bars g.apart)
-            (subst (λ b. (qs : List (List ℕ)) → StandApart c b qs → length qs ≤ length s.routes) g.no-bars w.1);
+            ∙ reach c ordered (λ w. false) the_plan.0 s.routes the_plan.1.cheapest (subst (λ b. StandApart c b s.routes) g.no_bars g.apart)
+            (subst (λ b. (qs : List (List ℕ)) → StandApart c b qs → length qs ≤ length s.routes) g.no_bars w.1);
       }
   closes k (Some answer.Blocked) t e (then_told {s = s} r d) =
       let g : Grew k s = grew k s r in
-      let w = stepped s g.open-now answer.Blocked t d in
-      absurd (not_blocked c (w.0, w.1, subst (λ b. All (λ v. b v ≡ true) w.0) g.no-bars w.2))
+      let w = stepped s g.open_now answer.Blocked t d in
+      absurd (not_blocked c (w.0, w.1, subst (λ b. All (λ v. b v ≡ true) w.0) g.no_bars w.2))
   closes k (Some (answer.Planned n)) t e (then_told {s = s} r d) = absurd (stepped s (grew k s r).open_now (answer.Planned n) t d)
   closes k (Some (answer.Routed n)) t e (then_told {s = s} r d) = absurd (stepped s (grew k s r).open_now (answer.Routed n) t d)
   closes k (Some (answer.Refused x)) t e (then_told {s = s} r d) = absurd (stepped s (grew k s r).open_now (answer.Refused x) t d)

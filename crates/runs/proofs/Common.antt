@@ -1,5 +1,5 @@
 -- What several proofs use.
-use Prim.Native.Nat.{ℕ, ◌-◌}
+use Prim.Native.Nat.{ℕ}
 use native.Mathlib.Omega.{arith}
 use mathlib.Core.Path.{◌≡◌, refl, sym, ◌∙◌, ap, fun_ext}
 use mathlib.Core.List.{List}
@@ -13,7 +13,6 @@ use Rattle.std.proofs.lemmas.List.{take-append-le, take_all}
 use Rattle.std.proofs.lemmas.Bool.{cases_Bool, eqb-true, not-true}
 use Rattle.circuits.specs.Answers.{first_fault}
 use Rattle.circuits.specs.Levels.{produced_at}
-use Rattle.circuits.specs.declared.answer.Refusal.TheVariants as refusal
 use Rattle.circuits.specs.declared.making.Making.{Making}
 use Rattle.routes.specs.Routes.{Wires}
 use Rattle.runs.specs.Events.{set_or_lifted}

@@ -1,10 +1,10 @@
 -- Steps one after another.
-use Rattle.std.proofs.Common.{◌≡◌, ℕ, zero, suc, ◌+◌, ◌≤◌, true, false, List, [], ◌∷◌, ◌++◌, replicate, Some, None, sym, refl, ap, ◌∙◌, subst, add-one, arith}
+use Rattle.std.proofs.Common.{◌≡◌, ℕ, ◌+◌, ◌≤◌, true, false, List, [], ◌∷◌, ◌++◌, replicate, Some, None, sym, refl, ◌∙◌, subst, add-one, arith}
 use Rattle.circuits.specs.declared.making.Making.{Making}
-use Rattle.runs.specs.Events.{Event, History}
-use Rattle.runs.specs.Told.{Told, DoesTold, RunTold, then_told}
+use Rattle.runs.specs.Events.{History}
+use Rattle.runs.specs.Told.{Told, DoesTold, then_told}
 use Rattle.runs.specs.Calls.{Called, Came, is_grown}
-use Rattle.runs.specs.Steps.{a_step, steps_made, SteppedOn}
+use Rattle.runs.specs.Steps.{a_step, SteppedOn}
 use Rattle.runs.specs.declared.calls.Answer.{Answer}
 use Rattle.runs.specs.declared.calls.Call.TheVariants as call
 use Rattle.runs.specs.declared.calls.Answer.TheVariants as answer

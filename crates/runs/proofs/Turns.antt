@@ -79,30 +79,30 @@ going_on wires this calls entry now answers at j c shows g below same long fits 
     let k : ℕ = at + n - at in
     let later : List ℕ = put_mid at k now part in
     let is_n : k ≡ n = omega arith in
-    let inside : at + n ≤ length now = omega (arith, next_fits calls j d below, g.at-is) in
+    let inside : at + n ≤ length now = omega (arith, next_fits calls j d below, g.at_is) in
     let part_long : length part ≡ k = lp ∙ short (drop at now) (rw length-drop (omega arith)) in
     let before_is : take k (drop at now) ≡ take (room_of a) (drop (rooms (take j calls)) entry) =
-    ap₂ take (is_n ∙ en) (g.rest ∙ ap (λ q. drop q entry) g.at-is) in
+    ap₂ take (is_n ∙ en) (g.rest ∙ ap (λ q. drop q entry) g.at_is) in
     let after_is : part ≡ take (room_of a) (drop (rooms (take j calls)) later) =
-    sym (between-put_mid at k now part (at + n) (omega arith) part_long) ∙ ap₂ take (is_n ∙ en) (ap (λ q. drop q later) g.at-is) in
+    sym (between-put_mid at k now part (at + n) (omega arith) part_long) ∙ ap₂ take (is_n ∙ en) (ap (λ q. drop q later) g.at_is) in
     let new : Event = happened a (take (room_of a) (drop (rooms (take j calls)) entry)) b (take (room_of a) (drop (rooms (take j calls)) later)) in
     let unchanged : take (rooms (take j calls)) later ≡ take (rooms (take j calls)) now =
-    subst (λ q. take q later ≡ take q now) g.at-is (take-put_mid_below at k now part at (omega arith) (omega arith)) in
+    subst (λ q. take q later ≡ take q now) g.at_is (take-put_mid_below at k now part at (omega arith) (omega arith)) in
     let history : ran (take (j + 1) calls) (take (j + 1) (set answers j b)) entry later ≡ new ∷ ran (take j calls) (take j answers) entry now =
     ap₂ (λ xs ys. ran xs ys entry later) (take_more calls j d below) (take_more_set answers j b (omega arith))
     ∙ ap reverse (events_more (take j calls) (take j answers) entry later a b (length_take_both calls answers j same))
     ∙ ap (λ es. reverse (es ++ new ∷ [])) (events_same (take j calls) (take j answers) entry later now unchanged)
     ∙ reverse-append (events (take j calls) (take j answers) entry now) (new ∷ []) in
     record {
-      at_is = omega (arith, g.at-is, next_room calls j d below);
+      at_is = omega (arith, g.at_is, next_room calls j d below);
       rest = drop-put_mid at k now part (at + n) (omega arith) (omega arith) part_long
           ∙ sym (drop-drop n at now) ∙ ap (drop n) g.rest ∙ drop-drop n at entry;
-      wires_are = called.0 ∙ g.wires-are;
+      wires_are = called.0 ∙ g.wires_are;
       came = λ h from.
           let was : Came wires shows (ran (take j calls) (take j answers) entry now ++ h) = g.came h from in
           let done : (t : Told) × DoesTold c was.0 (happened a (take k (drop at now)) b part) t × that t = called.1 was.0 was.1 in
           let does : DoesTold wires was.0 new done.0 =
-          subst (λ w. DoesTold w was.0 new done.0) g.wires-are
+          subst (λ w. DoesTold w was.0 new done.0) g.wires_are
           (subst (λ p. DoesTold c was.0 (happened a p b (take (room_of a) (drop (rooms (take j calls)) later))) done.0) before_is
           (subst (λ q. DoesTold c was.0 (happened a (take k (drop at now)) b q) done.0) after_is done.1)) in
           (done.0, done.2, subst (λ es. RunTold wires (es ++ h) done.0) (sym history) (then_told was.2 does));
@@ -118,7 +118,7 @@ pub gone : (wires : List Making) (this : Told → Type 0) (calls : List Call) (e
 gone wires this calls entry now answers at j c shows g below same =
     let all_calls : take j calls ≡ calls = take_all j calls below in
     let all_answers : take j answers ≡ answers = take_all j answers (omega arith) in (
-      subst (λ n. drop n now ≡ drop n entry) (g.at-is ∙ ap rooms all_calls) g.rest,
+      subst (λ n. drop n now ≡ drop n entry) (g.at_is ∙ ap rooms all_calls) g.rest,
       λ h from. subst (λ ys. Came wires shows (ran calls ys entry now ++ h)) all_answers
           (subst (λ xs. Came wires shows (ran xs (take j answers) entry now ++ h)) all_calls (g.came h from)),
     )
