@@ -1,6 +1,6 @@
 -- A set of wires as ascending ranks.
 use Rattle.std.proofs.Common.{◌≡◌, ℕ, ◌+◌, ◌-◌, ◌<◌, ◌≤◌, Bool, true, false, ◌&&◌, ◌||◌, eqb, ltb, ◌⊎◌, List, [], ◌∷◌, ◌++◌, length, take, drop, set, sym, refl, ap, ◌∙◌, subst, ap₂, ⊎_elim, arith, length-set, drop-set-lt}
-use Rattle.std.specs.List.{AllByRecursion as All}
+use Rattle.std.specs.List.{AllByRecursion}
 use Rattle.std.proofs.ByRecursion.{All-weaker}
 use Rattle.std.proofs.lemmas.List.{take_more_set, drop-drop}
 use Rattle.std.proofs.lemmas.Bool.{cases_order, eq-eqb, ne_eqb, lt-ltb, le-ltb}
@@ -12,11 +12,11 @@ use Rattle.routes.proofs.Traces.{prefix_le}
 use Rattle.flows.specs.Listing.{count, Listing}
 use Rattle.flows.proofs.Units.{sum_more}
 
-all_push : (P : ℕ → Type 0) (xs : List ℕ) (y : ℕ) → All P xs → P y → All P (xs ++ y ∷ [])
+all_push : (P : ℕ → Type 0) (xs : List ℕ) (y : ℕ) → AllByRecursion P xs → P y → AllByRecursion P (xs ++ y ∷ [])
 all_push P [] y h k = (k, tt)
 all_push P (x ∷ xs) y h k = (h.0, all_push P xs y h.1 k)
 
-ascending_push : (xs : List ℕ) (y : ℕ) → Ascending xs → All (λ x. x < y) xs → Ascending (xs ++ y ∷ [])
+ascending_push : (xs : List ℕ) (y : ℕ) → Ascending xs → AllByRecursion (λ x. x < y) xs → Ascending (xs ++ y ∷ [])
 ascending_push [] y h k = (tt, tt)
 ascending_push (x ∷ xs) y h k = (all_push (λ z. x < z) xs y h.0 k.0, ascending_push xs y h.1 k.1)
 
@@ -68,7 +68,7 @@ module _ (p : Wires) (w len : ℕ) (before out : List ℕ) (h : Listing p w len 
       let t : take (len + 1) (set out len w) ≡ take len out ++ w ∷ [] = take_more_set out len w l in
       record {
         ascending = subst Ascending (sym t) (ascending_push (take len out) w h.ascending h.lower);
-        lower = subst (All (λ u. u < w + 1)) (sym t)
+        lower = subst (AllByRecursion (λ u. u < w + 1)) (sym t)
             (all_push (λ u. u < w + 1) (take len out) w (All-weaker (λ u. u < w) (λ u. u < w + 1) (λ u l. omega arith) (take len out) h.lower) (omega arith));
         wires = λ u. ap (has u) t ∙ has_push (take len out) w u ∙ ap (λ a. a || eqb w u) (h.wires u) ∙ more_taken p w u e;
         many = omega (arith, h.many, sum_more (λ u. one_if (p u)) w, ap one_if e);

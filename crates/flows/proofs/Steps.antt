@@ -1,6 +1,6 @@
 -- Steps by the numbers of their places.
 use Rattle.std.proofs.Common.{◌≡◌, ℕ, zero, suc, ◌+◌, ◌-◌, ◌*◌, ◌/◌, ◌%◌, ◌<◌, ◌≤◌, Bool, true, false, cond, ◌&&◌, eqb, ◌⊎◌, List, [], length, sym, refl, ap, ◌∙◌, subst, ap₂, inl, inr, ⊎_elim, arith}
-use Rattle.std.specs.List.{AllByRecursion as All}
+use Rattle.std.specs.List.{AllByRecursion}
 use Rattle.std.proofs.lemmas.Bool.{cases_eq, cases_lt, eq-eqb, ne_eqb}
 use Rattle.circuits.specs.declared.making.Making.{Making}
 use Rattle.routes.specs.Routes.{IsProduct, Passes, Ordered, Wires}
@@ -276,7 +276,7 @@ pending_last c ordered barred n h at_height k y pending w e f = (
 
 -- a path is a trail
 module _ (c : List Making) (barred : Wires) (x : Flow) (n h : ℕ) (at_height : ℕ → ℕ) (path : Path c barred x n h at_height) where
-  missing : (i j : ℕ) → j ≤ i → i < h → All (λ p. p ≡ place (at_height i) → ⊥) (below at_height j)
+  missing : (i j : ℕ) → j ≤ i → i < h → AllByRecursion (λ p. p ≡ place (at_height i) → ⊥) (below at_height j)
   missing i zero l k = tt
   missing i (suc j) l k = (λ e. path.apart j i (omega arith) k (same_number (at_height j) (at_height i) e), missing i j (omega arith) k)
 

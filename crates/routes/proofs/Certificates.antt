@@ -1,7 +1,7 @@
 -- A plan is shown to be the earliest by rows and a list of places: a test that antt computes.
 use Rattle.std.proofs.Common.{◌≡◌, ℕ, ◌+◌, ◌<◌, ◌≤◌, Bool, true, false, cond, not, ◌&&◌, ◌||◌, eqb, ltb, leb, ◌⊎◌, List, [], ◌∷◌, length, sym, refl, ap, ◌∙◌, subst, inl, inr, ⊎_elim, arith}
 use Rattle.std.proofs.lemmas.Bool.{true≢false, cases_lt, and_parts, eqb-true, ltb-true, le-ltb, leb-true, or_cases, not-true, cond-false}
-use Rattle.std.specs.List.{AllByRecursion as All}
+use Rattle.std.specs.List.{AllByRecursion}
 use Rattle.circuits.specs.Levels.{has, produced_at, plan_fits}
 use Rattle.circuits.specs.TableLaws.{feeds_tells}
 use Rattle.circuits.specs.Tables.{feeds}
@@ -272,7 +272,7 @@ certified_earliest m bars plan rs ms ok =
     closed : Closed c barred ones y (among ms)
     closed = list_closed c ordered barred ones y flow ms t.2 t.3
 
-    up : Ascending plan × All (λ w. produced_at c w ≡ true) plan
+    up : Ascending plan × AllByRecursion (λ w. produced_at c w ≡ true) plan
     up = (plans_are_ascending c plan).0 t.4
 
     same : (w : ℕ) → has w plan ≡ border (among ms) w

@@ -2,7 +2,7 @@
 use Rattle.std.proofs.Common.{◌≡◌, ℕ, zero, suc, ◌+◌, ◌<◌, ◌≤◌, Bool, true, false, cond, not, ◌&&◌, ◌⊎◌, List, [], ◌∷◌, length, sym, refl, ap, subst, ap₂, inl, inr, ⊎_elim, arith}
 use Rattle.std.proofs.ByRecursion.{All-weaker}
 use Rattle.std.proofs.lemmas.Bool.{cases_Bool, cases_lt, and_parts, not-true}
-use Rattle.std.specs.List.{AllByRecursion as All}
+use Rattle.std.specs.List.{AllByRecursion}
 use Rattle.circuits.specs.Levels.{has, produced}
 use Rattle.circuits.specs.declared.making.Making.{Making}
 use Rattle.routes.specs.Routes.{at, Ordered, Wires, Joined, last, Ends, Route, Hits, Ahead, starts, goes_on}
@@ -153,11 +153,11 @@ border_earliest c ordered barred price x flow mark closed =
     }
 
 -- a route's wires are in the circuit
-joined_in : (c : List Making) (v : ℕ) (ws : List ℕ) → Joined c v ws → All (λ w. w < length c) ws
+joined_in : (c : List Making) (v : ℕ) (ws : List ℕ) → Joined c v ws → AllByRecursion (λ w. w < length c) ws
 joined_in c v [] j = tt
 joined_in c v (u ∷ us) j = (passes_in c u v j.0, joined_in c u us j.1)
 
-route_in : (c : List Making) (r : List ℕ) → Route c r → All (λ w. w < length c) r
+route_in : (c : List Making) (r : List ℕ) → Route c r → AllByRecursion (λ w. w < length c) r
 route_in c [] f = absurd f
 route_in c (u ∷ us) f = (product_in c u f.0, joined_in c u us f.1)
 
@@ -166,7 +166,7 @@ pub standing_bounds_cuts : (c : List Making) (barred : Wires) (price : ℕ → �
     → (rs : List (List ℕ)) → Stand c barred price rs → (p : Wires) → IsCut c p → FreeOf barred p → length rs ≤ capacity c price p
 standing_bounds_cuts c barred price rs stand p cut free =
     let ws : List ℕ = ranks (length c) in
-    let met : All (λ r. 1 ≤ over c (λ w. cond (p w) (one_if (has w r)) 0)) rs =
+    let met : AllByRecursion (λ r. 1 ≤ over c (λ w. cond (p w) (one_if (has w r)) 0)) rs =
     All-weaker (Route c) (λ r. 1 ≤ over c (λ w. cond (p w) (one_if (has w r)) 0))
     (λ r route.
     let t : (w : ℕ) × (p w ≡ true) × (has w r ≡ true) = hit_wire p r (cut r route) in
@@ -190,11 +190,11 @@ standing_bounds_cuts c barred price rs stand p cut free =
     held w false h = omega (arith, sum_none (λ r. cond false (one_if (has w r)) 0) rs (all_of (λ r. refl) rs))
 
 -- rows of barred wires
-row_ahead : (c : List Making) (p : Wires) (v : ℕ) (ws : List ℕ) → Ahead c p v → Joined c v ws → All (λ w. p w ≡ false) ws → Ahead c p (last v ws)
+row_ahead : (c : List Making) (p : Wires) (v : ℕ) (ws : List ℕ) → Ahead c p v → Joined c v ws → AllByRecursion (λ w. p w ≡ false) ws → Ahead c p (last v ws)
 row_ahead c p v [] a j n = a
 row_ahead c p v (w ∷ ws) a j n = row_ahead c p w ws (goes_on a j.0 n.0) j.1 n.1
 
-missed : (barred : Wires) (r : List ℕ) → (Hits (λ v. not (barred v)) r → ⊥) → All (λ w. barred w ≡ true) r
+missed : (barred : Wires) (r : List ℕ) → (Hits (λ v. not (barred v)) r → ⊥) → AllByRecursion (λ w. barred w ≡ true) r
 missed barred [] h = tt
 missed barred (w ∷ ws) h = (⊎_elim (λ k. k) (λ k. absurd (h (inl (ap not k)))) (cases_Bool (barred w)), missed barred ws (λ k. h (inr k)))
 
@@ -204,7 +204,7 @@ blocked_is_barred_row c barred = (λ b. there b.0 b.1 b.2, λ t. back t)
     p : Wires
     p = λ v. not (barred v)
 
-    there : (r : List ℕ) → Route c r → All (λ w. barred w ≡ true) r → (w : ℕ) × Ends c w × Ahead c p w
+    there : (r : List ℕ) → Route c r → AllByRecursion (λ w. barred w ≡ true) r → (w : ℕ) × Ends c w × Ahead c p w
     there [] f h = absurd f
     there (w ∷ ws) f h =
         (last w ws, f.2, row_ahead c p w ws (starts f.0 (ap not h.0)) f.1 (All-weaker (λ w. barred w ≡ true) (λ w. p w ≡ false) (λ w k. ap not k) ws h.1))
@@ -220,7 +220,7 @@ same_place? a b =
 module _ (c : List Making) (barred : Wires) (price : ℕ → ℕ) (x : Flow) where
   -- a place is on the trail, and then has a shorter one, or is not
   on_trail : {a : Place} {ps : List Place} → Trail c barred price x a ps → (b : Place)
-      → ((qs : List Place) × Trail c barred price x b qs) ⊎ All (λ p. p ≡ b → ⊥) (a ∷ ps)
+      → ((qs : List Place) × Trail c barred price x b qs) ⊎ AllByRecursion (λ p. p ≡ b → ⊥) (a ∷ ps)
   on_trail (begun {w = w} f) b =
       ⊎_elim (λ e. inl ([], subst (λ p. Trail c barred price x p []) e (begun f))) (λ n. inr (n, tt)) (same_place? (entry w) b)
   on_trail (after {a = a} {b = p} {ps = ps} t s m) b =
@@ -303,7 +303,7 @@ module _ (c : List Making) (ordered : Ordered c) (barred : Wires) (price : ℕ �
       (cases_lt w (length c))
 
 -- unless blocked, all unbarred wires are a cut
-unbarred_hits : (barred : Wires) (r : List ℕ) → Hits (λ v. not (barred v)) r ⊎ All (λ w. barred w ≡ true) r
+unbarred_hits : (barred : Wires) (r : List ℕ) → Hits (λ v. not (barred v)) r ⊎ AllByRecursion (λ w. barred w ≡ true) r
 unbarred_hits barred [] = inr tt
 unbarred_hits barred (w ∷ ws) =
     ⊎_elim (λ k. ⊎_elim (λ h. inl (inr h)) (λ h. inr (k, h)) (unbarred_hits barred ws)) (λ k. inl (inl (ap not k))) (cases_Bool (barred w))

@@ -1,7 +1,7 @@
 -- One unit more, along a path of steps.
 use Rattle.std.proofs.Common.{◌≡◌, ℕ, zero, suc, ◌+◌, ◌<◌, Bool, true, false, ◌&&◌, eqb, ◌⊎◌, List, ◌∷◌, length, sym, refl, ap, ◌∙◌, subst, ap₂, inl, inr, ⊎_elim, arith}
 use Rattle.std.proofs.lemmas.Bool.{cases_Bool, and_parts, eqb-true, eq-eqb, ne_eqb}
-use Rattle.std.specs.List.{AllByRecursion as All}
+use Rattle.std.specs.List.{AllByRecursion}
 use Rattle.circuits.specs.declared.making.Making.{Making}
 use Rattle.routes.specs.Routes.{IsProduct, Passes, Ordered, Wires, Ends}
 use Rattle.routes.specs.Sums.{sum_of, ranks, one_if}
@@ -155,7 +155,7 @@ module _ (c : List Making) (ordered : Ordered c) (barred : Wires) (price : ℕ �
       omega (arith, h, ap (λ b. one_if (b && eqb j w)) (ne_eqb i v (λ e. nq (ap exit e))))
 
   stills_kept : {a b p : Place} {ps : List Place} (s : Step c barred price x a b) (t : Trail c barred price x p ps) (y : Flow)
-      → All (λ q. q ≡ b → ⊥) (p ∷ ps) → Stills t y → Stills t (stepped s y)
+      → AllByRecursion (λ q. q ≡ b → ⊥) (p ∷ ps) → Stills t y → Stills t (stepped s y)
   stills_kept s (begun f) y n h = tt
   stills_kept s (after t r m) y n h = (stills_kept s t y n.1 h.0, still_kept s r y n.1.0 n.0 h.1)
 

@@ -3,7 +3,7 @@ use Rattle.std.proofs.Common.{◌≡◌, ℕ, zero, suc, ◌+◌, ◌<◌, ◌�
 use mathlib.Core.Path.{fun_ext}
 use Rattle.std.proofs.ByRecursion.{All-weaker}
 use Rattle.std.proofs.lemmas.Bool.{cond_both, cases_eq, eq-eqb, ne_eqb, cases_lt}
-use Rattle.std.specs.List.{AllByRecursion as All}
+use Rattle.std.specs.List.{AllByRecursion}
 use Rattle.circuits.specs.Growths.{Grows, exponential}
 use Rattle.circuits.specs.Levels.{has, produced, produced_at}
 use Rattle.circuits.specs.declared.making.Making.{Making}
@@ -34,7 +34,7 @@ exponential_grows =
 -- each route has a wire of the plan; the plan's wires are counted once for each route
 pub standing_routes_bound_cost : StandingRoutesBoundCost
 standing_routes_bound_cost t laws m ordered barred price rs stand plan clean free =
-    let hit : All (λ r. 1 ≤ sum_of (λ w. one_if (has w r)) plan) rs =
+    let hit : AllByRecursion (λ r. 1 ≤ sum_of (λ w. one_if (has w r)) plan) rs =
     All-weaker (Route m) (λ r. 1 ≤ sum_of (λ w. one_if (has w r)) plan)
     (λ r route.
     let t : (w : ℕ) × (has w plan ≡ true) × (has w r ≡ true) =
@@ -62,23 +62,23 @@ listed_from : Wires → ℕ → ℕ → List ℕ
 listed_from p k zero = []
 listed_from p k (suc n) = cond (p k) (k ∷ listed_from p (k + 1) n) (listed_from p (k + 1) n)
 
-listed_low : (p : Wires) (k n : ℕ) → All (λ w. k ≤ w) (listed_from p k n)
+listed_low : (p : Wires) (k n : ℕ) → AllByRecursion (λ w. k ≤ w) (listed_from p k n)
 unfolding listed_from
 listed_low p k zero = tt
 listed_low p k (suc n) =
-    let rest : All (λ w. k ≤ w) (listed_from p (k + 1) n) =
+    let rest : AllByRecursion (λ w. k ≤ w) (listed_from p (k + 1) n) =
     All-weaker (λ w. k + 1 ≤ w) (λ w. k ≤ w) (λ w l. omega arith) (listed_from p (k + 1) n) (listed_low p (k + 1) n) in
-    cond_both (p k) _ _ (All (λ w. k ≤ w)) (λ e. (omega arith, rest)) (λ e. rest)
+    cond_both (p k) _ _ (AllByRecursion (λ w. k ≤ w)) (λ e. (omega arith, rest)) (λ e. rest)
 
-listed_high : (p : Wires) (k n : ℕ) → All (λ w. w < k + n) (listed_from p k n)
+listed_high : (p : Wires) (k n : ℕ) → AllByRecursion (λ w. w < k + n) (listed_from p k n)
 unfolding listed_from
 listed_high p k zero = tt
 listed_high p k (suc n) =
-    let rest : All (λ w. w < k + suc n) (listed_from p (k + 1) n) =
+    let rest : AllByRecursion (λ w. w < k + suc n) (listed_from p (k + 1) n) =
     All-weaker (λ w. w < k + 1 + n) (λ w. w < k + suc n) (λ w l. omega arith) (listed_from p (k + 1) n) (listed_high p (k + 1) n) in
-    cond_both (p k) _ _ (All (λ w. w < k + suc n)) (λ e. (omega arith, rest)) (λ e. rest)
+    cond_both (p k) _ _ (AllByRecursion (λ w. w < k + suc n)) (λ e. (omega arith, rest)) (λ e. rest)
 
-listed_after : (p : Wires) (k n : ℕ) → All (λ w. k < w) (listed_from p (k + 1) n)
+listed_after : (p : Wires) (k n : ℕ) → AllByRecursion (λ w. k < w) (listed_from p (k + 1) n)
 listed_after p k n = All-weaker (λ w. k + 1 ≤ w) (λ w. k < w) (λ w l. omega arith) (listed_from p (k + 1) n) (listed_low p (k + 1) n)
 
 listed_ascending : (p : Wires) (k n : ℕ) → Ascending (listed_from p k n)
@@ -214,7 +214,7 @@ border_is_the_earliest m ordered barred price x flow mark closed plan up is-bord
     )
 
 -- a set without barred wires meets no route that has only such
-free_misses : (barred p : Wires) → FreeOf barred p → (r : List ℕ) → All (λ w. barred w ≡ true) r → Hits p r → ⊥
+free_misses : (barred p : Wires) → FreeOf barred p → (r : List ℕ) → AllByRecursion (λ w. barred w ≡ true) r → Hits p r → ⊥
 free_misses barred p free [] a h = h
 free_misses barred p free (w ∷ ws) a h = ⊎_elim (λ k. not_both a.0 (free w k)) (free_misses barred p free ws a.1) h
 

@@ -2,7 +2,7 @@
 use Rattle.std.proofs.Common.{◌≡◌, ℕ, zero, suc, ◌+◌, ◌<◌, ◌≤◌, Bool, true, false, cond, ◌&&◌, ◌||◌, eqb, leb, List, [], ◌∷◌, length, sym, refl, ap, ◌∙◌, ap₂, ⊎_elim, arith}
 use Rattle.std.proofs.ByRecursion.{All-weaker}
 use Rattle.std.proofs.lemmas.Bool.{true≢false, cases_Bool, eqb-true, eq-eqb, ne_eqb, leb-true, and_parts, cases_eq, and_from, le-leb}
-use Rattle.std.specs.List.{AllByRecursion as All}
+use Rattle.std.specs.List.{AllByRecursion}
 use Rattle.circuits.specs.Levels.{has, produced_at, plan_fits}
 use Rattle.circuits.specs.declared.making.Making.{Making}
 use Rattle.routes.specs.Sums.{sum_of, ranks}
@@ -30,7 +30,7 @@ eqb_flip : (x w : ℕ) → eqb x w ≡ eqb w x
 eqb_flip x w = ⊎_elim (λ e. eq-eqb x w e ∙ sym (eq-eqb w x (sym e))) (λ n. ne_eqb x w n ∙ sym (ne_eqb w x (λ e. n (sym e)))) (cases_eq x w)
 
 -- a number lower than all of a list is not in it
-pub not_has : (x : ℕ) (xs : List ℕ) → All (λ y. x < y) xs → has x xs ≡ false
+pub not_has : (x : ℕ) (xs : List ℕ) → AllByRecursion (λ y. x < y) xs → has x xs ≡ false
 not_has x xs a =
     ⊎_elim (λ h. let l : x < x = all_has (λ y. x < y) xs a x h in absurd (omega arith)) (λ h. h) (cases_Bool (has x xs))
 
@@ -79,16 +79,16 @@ one_ascending_list (x ∷ xs) (y ∷ ys) a b h =
 
 -- what a plan that fits from low on has
 fits_from : (c : List Making) (low : ℕ) (plan : List ℕ) → plan_fits c low plan ≡ true
-    → All (λ w. low ≤ w) plan × Ascending plan × All (λ w. produced_at c w ≡ true) plan
+    → AllByRecursion (λ w. low ≤ w) plan × Ascending plan × AllByRecursion (λ w. produced_at c w ≡ true) plan
 fits_from c low [] h = (tt, tt, tt)
 fits_from c low (x ∷ xs) h =
     let t : ((leb low x && produced_at c x) ≡ true) × (plan_fits c (x + 1) xs ≡ true) = and_parts (leb low x && produced_at c x) (plan_fits c (x + 1) xs) h in
     let u : (leb low x ≡ true) × (produced_at c x ≡ true) = and_parts (leb low x) (produced_at c x) t.0 in
     let l : low ≤ x = leb-true low x u.0 in
-    let r : All (λ w. x + 1 ≤ w) xs × Ascending xs × All (λ w. produced_at c w ≡ true) xs = fits_from c (x + 1) xs t.1 in
+    let r : AllByRecursion (λ w. x + 1 ≤ w) xs × Ascending xs × AllByRecursion (λ w. produced_at c w ≡ true) xs = fits_from c (x + 1) xs t.1 in
     ((l, All-weaker (λ w. x + 1 ≤ w) (λ w. low ≤ w) (λ w k. omega arith) xs r.0), (All-weaker (λ w. x + 1 ≤ w) (λ w. x < w) (λ w k. omega arith) xs r.0, r.1), (u.1, r.2))
 
-from_fits : (c : List Making) (low : ℕ) (plan : List ℕ) → All (λ w. low ≤ w) plan → Ascending plan → All (λ w. produced_at c w ≡ true) plan → plan_fits c low plan ≡ true
+from_fits : (c : List Making) (low : ℕ) (plan : List ℕ) → AllByRecursion (λ w. low ≤ w) plan → Ascending plan → AllByRecursion (λ w. produced_at c w ≡ true) plan → plan_fits c low plan ≡ true
 from_fits c low [] l a p = refl
 from_fits c low (x ∷ xs) l a p =
     and_from (leb low x && produced_at c x) (plan_fits c (x + 1) xs) (and_from (leb low x) (produced_at c x) (le-leb low x l.0) p.0)
@@ -96,6 +96,6 @@ from_fits c low (x ∷ xs) l a p =
 
 pub plans_are_ascending : PlansAreAscending
 plans_are_ascending c plan = (
-  λ h. let t : All (λ w. 0 ≤ w) plan × Ascending plan × All (λ w. produced_at c w ≡ true) plan = fits_from c 0 plan h in (t.1, t.2),
+  λ h. let t : AllByRecursion (λ w. 0 ≤ w) plan × Ascending plan × AllByRecursion (λ w. produced_at c w ≡ true) plan = fits_from c 0 plan h in (t.1, t.2),
   λ h. from_fits c 0 plan (has_all plan (λ w k. omega arith)) h.0 h.1,
 )

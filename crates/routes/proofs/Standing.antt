@@ -2,7 +2,7 @@
 use Rattle.std.proofs.Common.{◌≡◌, ℕ, ◌+◌, ◌≤◌, Bool, true, false, List, [], ◌∷◌, sym, ap, ◌∙◌, ⊎_elim, arith}
 use Rattle.std.proofs.ByRecursion.{All-weaker}
 use Rattle.std.proofs.lemmas.Bool.{true≢false, cases_Bool}
-use Rattle.std.specs.List.{AllByRecursion as All}
+use Rattle.std.specs.List.{AllByRecursion}
 use Rattle.circuits.specs.Levels.{has}
 use Rattle.routes.specs.Routes.{Wires, Hits}
 use Rattle.routes.specs.Sums.{sum_of, one_if}
@@ -51,7 +51,7 @@ apart_is_one_each barred rs = (apart_within barred rs, back rs)
     back (r ∷ rs) h = (others rs (λ w u. h w u), back rs (λ w u. omega (arith, h w u)))
       where
         others : (ss : List (List ℕ)) → ((w : ℕ) → barred w ≡ false → one_if (has w r) + passing ss w ≤ 1)
-            → All (λ s. (w : ℕ) → has w r ≡ true → has w s ≡ true → barred w ≡ true) ss
+            → AllByRecursion (λ s. (w : ℕ) → has w r ≡ true → has w s ≡ true → barred w ≡ true) ss
         others [] k = tt
         others (s ∷ ss) k = (
           (λ w e f. ⊎_elim (λ b. b) (λ b. absurd (omega (arith, k w b, ap one_if e, ap one_if f))) (cases_Bool (barred w))),

@@ -1,18 +1,18 @@
 -- Laws of sums over lists and over ranks.
 use Rattle.std.proofs.Common.{◌≡◌, ℕ, zero, suc, ◌+◌, ◌<◌, ◌≤◌, Bool, true, false, cond, ◌⊎◌, List, [], ◌∷◌, length, sym, refl, ap, subst, inl, inr, ⊎_elim, arith}
 use Rattle.std.proofs.lemmas.Bool.{cases_lt}
-use Rattle.std.specs.List.{AllByRecursion as All}
+use Rattle.std.specs.List.{AllByRecursion}
 use Rattle.routes.specs.Sums.{sum_of, ranks}
 
-pub sum_le : {A : Type 0} (f h : A → ℕ) (xs : List A) → All (λ x. f x ≤ h x) xs → sum_of f xs ≤ sum_of h xs
+pub sum_le : {A : Type 0} (f h : A → ℕ) (xs : List A) → AllByRecursion (λ x. f x ≤ h x) xs → sum_of f xs ≤ sum_of h xs
 sum_le f h [] a = omega arith
 sum_le f h (x ∷ xs) a = omega (arith, sum_le f h xs a.1, a.0)
 
-pub sum_same : {A : Type 0} (f h : A → ℕ) (xs : List A) → All (λ x. f x ≡ h x) xs → sum_of f xs ≡ sum_of h xs
+pub sum_same : {A : Type 0} (f h : A → ℕ) (xs : List A) → AllByRecursion (λ x. f x ≡ h x) xs → sum_of f xs ≡ sum_of h xs
 sum_same f h [] a = refl
 sum_same f h (x ∷ xs) a = omega (arith, sum_same f h xs a.1, a.0)
 
-pub sum_none : {A : Type 0} (f : A → ℕ) (xs : List A) → All (λ x. f x ≡ 0) xs → sum_of f xs ≡ 0
+pub sum_none : {A : Type 0} (f : A → ℕ) (xs : List A) → AllByRecursion (λ x. f x ≡ 0) xs → sum_of f xs ≡ 0
 sum_none f [] a = refl
 sum_none f (x ∷ xs) a = omega (arith, sum_none f xs a.1, a.0)
 
@@ -34,12 +34,12 @@ sum_swap f [] ys = sym (sum_zeros ys)
 sum_swap f (x ∷ xs) ys =
     omega (arith, sum_swap f xs ys, sum_add (λ y. f x y) (λ y. sum_of (λ x. f x y) xs) ys)
 
-pub all_of : {A : Type 0} {P : A → Type 0} → ((x : A) → P x) → (xs : List A) → All P xs
+pub all_of : {A : Type 0} {P : A → Type 0} → ((x : A) → P x) → (xs : List A) → AllByRecursion P xs
 all_of h [] = tt
 all_of h (x ∷ xs) = (h x, all_of h xs)
 
 -- over ranks
-pub all_ranks : {P : ℕ → Type 0} (n : ℕ) → ((w : ℕ) → w < n → P w) → All P (ranks n)
+pub all_ranks : {P : ℕ → Type 0} (n : ℕ) → ((w : ℕ) → w < n → P w) → AllByRecursion P (ranks n)
 all_ranks zero h = tt
 all_ranks (suc n) h = (h n (omega arith), all_ranks n (λ w l. h w (omega arith)))
 

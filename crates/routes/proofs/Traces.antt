@@ -1,7 +1,7 @@
 -- The units of a flow as routes.
 use Rattle.std.proofs.Common.{◌≡◌, ℕ, zero, suc, ◌+◌, ◌-◌, ◌<◌, ◌≤◌, Bool, true, false, not, ◌&&◌, eqb, ◌⊎◌, List, [], ◌∷◌, length, sym, refl, ap, ◌∙◌, subst, ap₂, subst₂, inl, inr, ⊎_elim, arith}
 use Rattle.std.proofs.lemmas.Bool.{true≢false, cases_Bool, cases_lt, cases_order, eqb-true, ne_eqb}
-use Rattle.std.specs.List.{AllByRecursion as All}
+use Rattle.std.specs.List.{AllByRecursion}
 use Rattle.circuits.specs.Levels.{has}
 use Rattle.circuits.specs.declared.making.Making.{Making}
 use Rattle.routes.specs.Routes.{Passes, Ordered, Wires, Joined, last, Ends, Route}
@@ -133,7 +133,7 @@ module _ (c : List Making) (ordered : Ordered c) (barred : Wires) (price : ℕ �
       (λ s. omega (arith, ap one_if s, passing_le w (suc i) rs t.1 free (λ l j k m. h l j (omega arith) m)))
       (cases_Bool (has w r))
 
-  traces_routes : (i : ℕ) (rs : List (List ℕ)) → Traces x i rs → All (Route c) rs
+  traces_routes : (i : ℕ) (rs : List (List ℕ)) → Traces x i rs → AllByRecursion (Route c) rs
   traces_routes i [] t = tt
   traces_routes i (r ∷ rs) t = (traced_route i r t.0, traces_routes (suc i) rs t.1)
 

@@ -3,7 +3,7 @@ use Rattle.std.proofs.Common.{◌≡◌, ℕ, ◌<◌, Bool, true, false, eqb, �
 use Rattle.std.proofs.lemmas.List.{get_or_past}
 use Rattle.std.proofs.lemmas.Option.{slice_get_past, slice_get-get_or}
 use Rattle.std.proofs.lemmas.Bool.{eqb-true, eq-eqb, true≢false, cases_lt, or_cases, or_left, or_right}
-use Rattle.std.specs.List.{AllByRecursion as All}
+use Rattle.std.specs.List.{AllByRecursion}
 use Rattle.circuits.specs.Circuits.{Feeds}
 use Rattle.circuits.specs.Levels.{has, produced, produced_of, produced_at}
 use Rattle.circuits.specs.declared.making.Making.{Making}
@@ -102,11 +102,11 @@ pub has_cases : (w x : ℕ) (xs : List ℕ) → has w (x ∷ xs) ≡ true → (w
 has_cases w x xs h = ⊎_elim (λ e. inl (sym (eqb-true x w e))) inr (or_cases (eqb x w) (has w xs) h)
 
 -- what holds of each number of a list holds of what is in it, and the other way round
-pub all_has : (P : ℕ → Type 0) (xs : List ℕ) → All P xs → (w : ℕ) → has w xs ≡ true → P w
+pub all_has : (P : ℕ → Type 0) (xs : List ℕ) → AllByRecursion P xs → (w : ℕ) → has w xs ≡ true → P w
 all_has P [] a w h = absurd (true≢false (sym h))
 all_has P (x ∷ xs) a w h = ⊎_elim (λ e. subst P (sym e) a.0) (λ k. all_has P xs a.1 w k) (has_cases w x xs h)
 
-pub has_all : {P : ℕ → Type 0} (xs : List ℕ) → ((w : ℕ) → has w xs ≡ true → P w) → All P xs
+pub has_all : {P : ℕ → Type 0} (xs : List ℕ) → ((w : ℕ) → has w xs ≡ true → P w) → AllByRecursion P xs
 has_all [] h = tt
 has_all (x ∷ xs) h = (h x (has_first x xs), has_all xs (λ w k. h w (has_later w x xs k)))
 

@@ -1,6 +1,6 @@
 -- Flows: how many units begin at a wire, pass from one wire to the next, and end at a wire.
 use Rattle.std.specs.Prelude.{◌≡◌, ℕ, ◌+◌, ◌<◌, ◌≤◌, false, cond, List, length}
-use Rattle.std.specs.List.{AllByRecursion as All}
+use Rattle.std.specs.List.{AllByRecursion}
 use Rattle.circuits.specs.declared.making.Making.{Making}
 use Rattle.routes.specs.Routes.{IsProduct, Passes, Ordered, Wires, Ends, Route, Hits}
 use Rattle.routes.specs.Sums.{sum_of, ranks}
@@ -47,7 +47,7 @@ capacity c price p = over c (λ w. cond (p w) (price w) 0)
 -- what an ascending plan costs is the capacity of its wires
 abbrev pub CostIsCapacity : Type 0
 CostIsCapacity =
-    (c : List Making) (price : ℕ → ℕ) (plan : List ℕ) → Ascending plan → All (λ w. w < length c) plan
+    (c : List Making) (price : ℕ → ℕ) (plan : List ℕ) → Ascending plan → AllByRecursion (λ w. w < length c) plan
     → capacity c price (wires_of plan) ≡ cost price plan
 
 -- a flow has no more units than can pass a cut without barred wires

@@ -1,6 +1,6 @@
 -- Small circuits, with what becomes of each.
 use Rattle.std.specs.Prelude.{◌≡◌, ℕ, ◌+◌, true, ◌⊎◌, List, [], ◌∷◌}
-use Rattle.std.specs.List.{AllByRecursion as All}
+use Rattle.std.specs.List.{AllByRecursion}
 use Rattle.circuits.specs.Circuits.{Meaning, Lawful}
 use Rattle.circuits.specs.Growths.{Tables, Grows, exponential}
 use Rattle.circuits.specs.Levels.{rules, run_from, IsClean}
@@ -54,7 +54,7 @@ pub data Expected : Type 0 where
 -- that this becomes of the circuit with its barred wires
 abbrev pub Becomes : Meaning → Wires → Expected → Type 0
 Becomes m barred (plan_is plan) = EarliestSmallest m.makings barred plan
-Becomes m barred (blocked_by r) = Route m.makings r × All (λ w. barred w ≡ true) r
+Becomes m barred (blocked_by r) = Route m.makings r × AllByRecursion (λ w. barred w ≡ true) r
 Becomes m barred (overruns plan rank level) = (run_from (rules exponential 2 1) plan [] m.makings).answer ≡ Overrun (rank, level)
 
 -- a circuit, its barred wires, and what becomes of it
@@ -79,7 +79,7 @@ jobs =
 
 -- each of the circuits is lawful, and becomes what is expected
 abbrev pub SmallJobs : Type 0
-SmallJobs = All (λ j. Lawful j.circuit × Becomes j.circuit (wires_of j.bars) j.expected) jobs
+SmallJobs = AllByRecursion (λ j. Lawful j.circuit × Becomes j.circuit (wires_of j.bars) j.expected) jobs
 
 -- each route of three products is wire 2 alone, which product 3 closes, or wire 3 alone; but the plan of wire 3 is clean at no scheme of limit two
 abbrev pub ClosingProductDoesNotCount : Type 0

@@ -1,6 +1,6 @@
 -- One unit more, along a path of steps.
 use Rattle.std.specs.Prelude.{◌≡◌, ℕ, ◌+◌, ◌-◌, ◌<◌, ◌≤◌, false, ◌&&◌, List, [], ◌∷◌, ◌==◌, ◌≢◌}
-use Rattle.std.specs.List.{AllByRecursion as All}
+use Rattle.std.specs.List.{AllByRecursion}
 use Rattle.circuits.specs.declared.making.Making.{Making}
 use Rattle.routes.specs.Routes.{IsProduct, Passes, Ordered, Wires, Ends}
 use Rattle.routes.specs.Sums.{one_if}
@@ -31,7 +31,7 @@ stepped (take_back {v = v} {w = w} s) y = record { start = y.start; along = less
 -- steps to a place, the last first, from the entry of a product, with no place twice
 pub data Trail (c : List Making) (barred : Wires) (price : ℕ → ℕ) (x : Flow) : Place → List Place → Type 0 where
   begun : {w : ℕ} → IsProduct c w → Trail c barred price x (entry w) []
-  after : {a b : Place} {ps : List Place} → Trail c barred price x a ps → Step c barred price x a b → All (λ p. p ≢ b) (a ∷ ps)
+  after : {a b : Place} {ps : List Place} → Trail c barred price x a ps → Step c barred price x a b → AllByRecursion (λ p. p ≢ b) (a ∷ ps)
       → Trail c barred price x b (a ∷ ps)
 
 -- the flow with one unit more along the trail

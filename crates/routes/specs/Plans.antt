@@ -1,6 +1,6 @@
 -- Plans that fit, the cheapest of them and the earliest of those.
 use Rattle.std.specs.Prelude.{◌≡◌, ℕ, ◌≤◌, true, false, not, ◌⊎◌, ◌↔◌, List, length}
-use Rattle.std.specs.List.{AllByRecursion as All}
+use Rattle.std.specs.List.{AllByRecursion}
 use Rattle.circuits.specs.Growths.{Tables, Grows, Bounded}
 use Rattle.circuits.specs.Levels.{rules, has, plan_fits, IsClean}
 use Rattle.circuits.specs.declared.making.Making.{Making}
@@ -53,7 +53,7 @@ EarliestSmallest c barred plan = Earliest c barred ones plan
 
 -- some route has only barred wires
 abbrev pub Blocked : List Making → Wires → Type 0
-Blocked c barred = (r : List ℕ) × Route c r × All (λ w. barred w ≡ true) r
+Blocked c barred = (r : List ℕ) × Route c r × AllByRecursion (λ w. barred w ≡ true) r
 
 -- at limit two a refresh leaves level 1
 abbrev pub FreshLevelIsOne : Type 0

@@ -1,6 +1,6 @@
 -- Routes that force what a plan costs.
 use Rattle.std.specs.Prelude.{◌≡◌, ℕ, ◌≤◌, true, false, ◌↔◌, List, [], ◌∷◌, length}
-use Rattle.std.specs.List.{AllByRecursion as All}
+use Rattle.std.specs.List.{AllByRecursion}
 use Rattle.circuits.specs.Growths.{Tables, Grows}
 use Rattle.circuits.specs.Levels.{rules, has, IsClean}
 use Rattle.circuits.specs.declared.making.Making.{Making}
@@ -14,12 +14,12 @@ passing rs w = sum_of (λ r. one_if (has w r)) rs
 
 -- rows that are routes, of which at most its price pass an unbarred wire
 abbrev pub Stand : List Making → Wires → (ℕ → ℕ) → List (List ℕ) → Type 0
-Stand c barred price rs = All (Route c) rs × ((w : ℕ) → barred w ≡ false → passing rs w ≤ price w)
+Stand c barred price rs = AllByRecursion (Route c) rs × ((w : ℕ) → barred w ≡ false → passing rs w ≤ price w)
 
 -- no two of the rows share an unbarred wire
 abbrev pub Apart : Wires → List (List ℕ) → Type 0
 Apart barred [] = Unit {0}
-Apart barred (r ∷ rs) = All (λ s. (w : ℕ) → has w r ≡ true → has w s ≡ true → barred w ≡ true) rs × Apart barred rs
+Apart barred (r ∷ rs) = AllByRecursion (λ s. (w : ℕ) → has w r ≡ true → has w s ≡ true → barred w ≡ true) rs × Apart barred rs
 
 -- at price 1, routes stand just where no two share an unbarred wire
 abbrev pub ApartIsOneEach : Type 0
@@ -36,7 +36,7 @@ StandingRoutesBoundCost =
 abbrev pub RoutesApartBoundPlans : Type 0
 RoutesApartBoundPlans =
     (t : Tables) → Grows t → (c : List Making) → Ordered c → (barred : Wires)
-    → (rs : List (List ℕ)) → All (Route c) rs → Apart barred rs
+    → (rs : List (List ℕ)) → AllByRecursion (Route c) rs → Apart barred rs
     → (plan : List ℕ) → IsClean c (rules t 2 1) plan → FreeOf barred (wires_of plan) → length rs ≤ length plan
 
 -- as many routes as any number up to the cost of a cheapest plan can stand, and no more
@@ -49,4 +49,4 @@ RoutesStandUpToCost =
 abbrev pub RoutesApartUpToSize : Type 0
 RoutesApartUpToSize =
     (c : List Making) → Ordered c → (barred : Wires) (plan : List ℕ) → Smallest c barred plan
-    → (k : ℕ) → ((rs : List (List ℕ)) × All (Route c) rs × Apart barred rs × (length rs ≡ k)) ↔ (k ≤ length plan)
+    → (k : ℕ) → ((rs : List (List ℕ)) × AllByRecursion (Route c) rs × Apart barred rs × (length rs ≡ k)) ↔ (k ≤ length plan)

@@ -2,7 +2,7 @@
 use Rattle.std.specs.Prelude.{◌≡◌, ℕ, ◌+◌, ◌-◌, ◌<◌, cond, List, length, ◌==◌, nat_lt, slice_index, slice_set}
 use Rattle.circuits.specs.declared.making.Making.{Making}
 use Rattle.circuits.specs.declared.making.Making.TheVariants.{Input, Constant, Copy, Inversion, Sum, Product}
-use Rattle.routes.specs.Routes.{at, Takes, starts}
+use Rattle.routes.specs.Routes.{at, Takes}
 use Rattle.routes.specs.Sums.{sum_of, ranks}
 use Rattle.routes.specs.Flows.{Flow}
 use Rattle.routes.specs.Paths.{more_at, less_at, more_along, less_along}

@@ -1,4 +1,6 @@
 // Routes, plans and levels: each function carries a theorem in its contract, and does nothing.
+#![tactic(auto)]
+
 ghost use Rattle.routes.specs.Routes.{LawfulIsOrdered};
 ghost use Rattle.routes.specs.Ranks.{PlansAreAscending, OneAscendingList};
 ghost use Rattle.routes.specs.Plans.{CleanIsEveryRouteHit, CleanAtOneIsCleanAtAll, FreshLevelIsOne, OneEarliestUnlessBlocked, EarliestExistsUnlessBlocked, EarliestIsOne, BlockedHasNoPlan, BlockedIsBarredRow, SmallestIsFewest};
