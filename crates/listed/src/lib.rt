@@ -1,4 +1,6 @@
 // A graph that lies in the lent memory as compressed lists.
+#![tactic(auto)]
+
 ghost use Rattle.std.specs.Prelude.{◌≡◌, ◌^◌, ◌<◌};
 ghost use Rattle.listed.specs.Lists.{size, listed, UnlessLarge, MarksByNumber};
 ghost use Rattle.listed.specs.Listing.{listed_inside};

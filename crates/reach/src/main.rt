@@ -1,4 +1,6 @@
 // Searches a small graph of its own, and prints what is found.
+#![tactic(auto)]
+
 use circuits::answer::Refusal;
 use listed::{CHOSEN, GOAL, Listed};
 use search::graph::Graph;

@@ -1,4 +1,6 @@
 // One depth-first search for every kind of graph.
+#![tactic(auto)]
+
 ghost use Rattle.search.specs.Searches.{MarksReached, Finds, FindsFurther, FindsAny};
 
 use crate::graph::Graph;
