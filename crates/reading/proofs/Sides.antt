@@ -15,7 +15,7 @@ use Rattle.tokens.specs.declared.token.Numeral.{Numeral}
 use Rattle.reading.specs.declared.wires.Side.{Side}
 use Rattle.reading.specs.declared.wires.Side.TheVariants.{In, Out}
 use Rattle.tokens.specs.Faults.{fault_at}
-use Rattle.tokens.specs.Lines.{then, listed, number_at, numbers_at, gate_of}
+use Rattle.tokens.specs.Lines.{listed, number_at, numbers_at, gate_of}
 use Rattle.reading.specs.Wires.{refused, side_refusal}
 use Rattle.reading.specs.Wires as wires
 use Rattle.reading.specs.Texts.{rank, made, input_ok, inputs_ok, making_of, value_at, make, after, line_makes}

@@ -123,18 +123,18 @@ module _ (es : List Entry) where
     lawful_sound = record {
       some = omega (arith, wide i o, l.some);
       most = omega (arith, wide i o, l.most);
-      outputs_fit = omega (arith, wide i o, l.outputs-fit);
+      outputs_fit = omega (arith, wide i o, l.outputs_fit);
       all = refl;
       laws = record {
-        enough = omega (arith, wide i o, l.inputs-fit);
+        enough = omega (arith, wide i o, l.inputs_fit);
         first = λ k h.
-            let b : k < length es = omega (arith, wide i o, l.inputs-fit) in
-            let m : (entry_at es k).making ≡ Input = input_is (entry_at es k).making (ap is_input (sym (making_at k b)) ∙ l.inputs-first k h) in
-            let n : (entry_at es k).name ≡ k = sym (name_at k b) ∙ l.inputs-named k h in
+            let b : k < length es = omega (arith, wide i o, l.inputs_fit) in
+            let m : (entry_at es k).making ≡ Input = input_is (entry_at es k).making (ap is_input (sym (making_at k b)) ∙ l.inputs_first k h) in
+            let n : (entry_at es k).name ≡ k = sym (name_at k b) ∙ l.inputs_named k h in
             ap (λ x. record { making = x; name = (entry_at es k).name }) m ∙ ap (λ x. record { making = Input; name = x }) n;
-        only = λ k ge h e. both_ways (is_input (entry_at es k).making) (ap is_input (sym (making_at k h)) ∙ l.inputs-only k ge (omega (arith, wide i o))) (ap is_input e);
+        only = λ k ge h e. both_ways (is_input (entry_at es k).making) (ap is_input (sym (making_at k h)) ∙ l.inputs_only k ge (omega (arith, wide i o))) (ap is_input e);
         fed = λ k h. subst (Feeds k) (making_at k h) (l.fed k (omega (arith, wide i o)));
-        named = λ k h. omega (arith, wide i o, name_at k h, l.names-below k (omega (arith, wide i o)));
+        named = λ k h. omega (arith, wide i o, name_at k h, l.names_below k (omega (arith, wide i o)));
         apart = λ j k jk h e.
             let same : j ≡ k = l.names_apart j k (omega (arith, wide i o)) (omega (arith, wide i o)) (name_at j (omega arith) ∙ e ∙ sym (name_at k h)) in
             omega arith;

@@ -1,4 +1,6 @@
 // Reads a circuit from a Bristol Fashion text into lent memory.
+#![tactic(auto)]
+
 mod gates;
 mod line;
 mod parts;

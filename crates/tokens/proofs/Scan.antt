@@ -1,5 +1,5 @@
 -- Laws of rows of bytes, and of `next_token`.
-use Rattle.std.proofs.Common.{◌≡◌, ℕ, suc, ◌+◌, ◌-◌, ◌<◌, ◌≤◌, Bool, true, false, cond, eqb, List, [], ◌∷◌, ◌++◌, length, get_or, take, drop, Ok, Result, sym, refl, ap, ◌∙◌, ⊎_elim, add-zero, one-add, arith, take-add}
+use Rattle.std.proofs.Common.{◌≡◌, ℕ, suc, ◌+◌, ◌<◌, ◌≤◌, Bool, true, false, cond, eqb, List, [], ◌∷◌, ◌++◌, length, get_or, take, drop, Ok, Result, sym, refl, ap, ◌∙◌, ⊎_elim, add-zero, one-add, arith, take-add}
 use Rattle.std.specs.List.{prefix_len}
 use Rattle.std.proofs.lemmas.List.{take_more, length-take-le}
 use Rattle.std.proofs.lemmas.Bool.{cases_Bool, cond-true, cond-false, eq-eqb, ne_eqb}
@@ -8,7 +8,7 @@ use Rattle.std.proofs.lemmas.List.Sums.{prefix_len-drop_yes, prefix_len-drop_no,
 use Rattle.tokens.specs.Places.{visible, blank, ends, line_of}
 use Rattle.tokens.specs.declared.fault.Fault.{Fault}
 use Rattle.tokens.specs.Numbers.{value_of}
-use Rattle.tokens.specs.Tokens.{Piece, end, sorted, front, next_token, no_token}
+use Rattle.tokens.specs.Tokens.{Piece, sorted, front, next_token, no_token}
 
 module _ (p : ℕ → Bool) (s : List ℕ) (i : ℕ) (so_far : i + prefix_len p (drop i s) ≡ prefix_len p s) where
   pub run_stops : i < length s → p (get_or s i 0) ≡ false → i ≡ prefix_len p s

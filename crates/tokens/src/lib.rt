@@ -1,4 +1,6 @@
 // Reads the tokens and the lines of a Bristol Fashion text.
+#![tactic(auto)]
+
 pub mod cursor;
 pub mod fault;
 pub mod gate;

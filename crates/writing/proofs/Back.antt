@@ -1,5 +1,5 @@
 -- A written line is read back.
-use Rattle.std.proofs.Common.{◌≡◌, ℕ, suc, ◌+◌, ◌-◌, ◌^◌, ◌<◌, ◌≤◌, true, cond, ◌&&◌, eqb, leb, List, [], ◌∷◌, ◌++◌, length, drop, Ok, Err, decimal, Result, sym, refl, ap, ◌∙◌, subst, ⊎_elim, append_assoc, append-nil, arith}
+use Rattle.std.proofs.Common.{◌≡◌, ℕ, suc, ◌+◌, ◌^◌, ◌<◌, ◌≤◌, true, cond, ◌&&◌, eqb, leb, List, [], ◌∷◌, ◌++◌, length, drop, Ok, Err, decimal, Result, sym, refl, ap, ◌∙◌, subst, ⊎_elim, append_assoc, append-nil, arith}
 use Rattle.std.specs.List.{prefix_len}
 use Rattle.std.proofs.lemmas.List.{drop_at, drop-drop}
 use Rattle.std.proofs.lemmas.Bool.{cond-true, cond-false, cases_Bool, le-leb, eqb-true, eqb-false, and_from}
@@ -9,7 +9,7 @@ use Rattle.tokens.specs.declared.gate.Rule.{Rule}
 use Rattle.tokens.specs.declared.token.Numeral.{Numeral}
 use Rattle.tokens.specs.Faults.{fault_at}
 use Rattle.tokens.specs.Headers.{gap, line_start, widths_at, sum_at}
-use Rattle.tokens.specs.Tokens.{end, next_token}
+use Rattle.tokens.specs.Tokens.{next_token}
 use Rattle.tokens.specs.Lines.{then, number_at, rule_at, rule_in, end_at, end_in, gate_at}
 use Rattle.writing.specs.Writes.{spaced, gate_text, width_text}
 use Rattle.writing.proofs.Written.{stops_spaced, reads_one, reads_first, Small, places, after_all, then_ok, reads_all, lead_number}

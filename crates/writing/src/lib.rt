@@ -1,4 +1,6 @@
 // Writes a circuit as a Bristol Fashion text into lent memory.
+#![tactic(auto)]
+
 pub mod bytes;
 mod lines;
 

@@ -11,7 +11,7 @@ use Rattle.reading.specs.Wires.{count_of, side_refusal}
 use Rattle.reading.specs.Texts.{line_makes}
 use Rattle.reading.specs.Holds.{Keeps, two, got, making_in}
 use Rattle.reading.proofs.Stand.{Stands}
-use Rattle.reading.proofs.Sides.{Inner, Ready, ins, in_stop, outs, row, side_run, sides, sides_all, run_done, ready_next}
+use Rattle.reading.proofs.Sides.{Inner, Ready, ins, in_stop, outs, side_run, sides, sides_all, run_done, ready_next}
 use Rattle.reading.proofs.Walk.{closing, in_row, past_row, next_ok, hit, asks_out, puts_out, turn_out, turn_in, passed_right, begins}
 use Rattle.reading.proofs.line.make_line.Goals as goal
 use Rattle.reading.proofs.line.make_line.Goals.{then-takes_two, else-takes_two, in-In, in-Out, in-In-side, in-Out-side, else-line-test, then-line-test+then-loop-i-test+then-is_refused, Left-line}

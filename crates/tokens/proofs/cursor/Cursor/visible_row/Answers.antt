@@ -12,7 +12,7 @@ pub overflow_add-end : goal.overflow_add-end
 overflow_add-end c = omega (arith, (on c).inside, c.args.self.now.short)
 
 pub invariant_of-self : goal.invariant_of-self
-invariant_of-self c = ((on c).inside, (c.args.self.now.short, ((on c).same, tt)))
+invariant_of-self c = record { within = (on c).inside; short = c.args.self.now.short; counted = (on c).same }
 
 pub returns : goal.returns
 returns c =
