@@ -1,6 +1,6 @@
 -- Steps to the end of a new planning, and its plan.
 use Rattle.std.proofs.Common.{◌≡◌, ℕ, zero, suc, ◌+◌, ◌<◌, ◌≤◌, Bool, true, false, cond, ◌&&◌, ltb, leb, List, [], ◌∷◌, ◌++◌, length, drop, replicate, Some, None, Ok, Err, Option, Result, sym, refl, ap, ◌∙◌, subst, ⊎_elim, append-nil, add-one, arith}
-use Rattle.std.specs.List.{AllByRecursion as All}
+use Rattle.std.specs.List.{AllByRecursion}
 use Rattle.std.proofs.lemmas.Bool.{true≢false, and_parts, leb-true}
 use Rattle.circuits.specs.Answers.{number_of, first_fault}
 use Rattle.circuits.specs.Levels.{produced_at, plan_fits}
@@ -36,7 +36,7 @@ plan_short c low (x ∷ xs) e l =
 not_blocked : (c : List Making) → Blocked c (λ w. false) → ⊥
 not_blocked c b = inside b.0 b.1 b.2
   where
-    inside : (r : List ℕ) → Route c r → All (λ w. false ≡ true) r → ⊥
+    inside : (r : List ℕ) → Route c r → AllByRecursion (λ w. false ≡ true) r → ⊥
     inside [] f a = f
     inside (w ∷ ws) f a = true≢false (sym a.0)
 
@@ -103,7 +103,7 @@ module _ (c : List Making) (ordered : Ordered c) where
   closes k (Some answer.Blocked) t e (then_told {s = s} r d) =
       let g : Grew k s = grew k s r in
       let w = stepped s g.open_now answer.Blocked t d in
-      absurd (not_blocked c (w.0, w.1, subst (λ b. All (λ v. b v ≡ true) w.0) g.no_bars w.2))
+      absurd (not_blocked c (w.0, w.1, subst (λ b. AllByRecursion (λ v. b v ≡ true) w.0) g.no_bars w.2))
   closes k (Some (answer.Planned n)) t e (then_told {s = s} r d) = absurd (stepped s (grew k s r).open_now (answer.Planned n) t d)
   closes k (Some (answer.Routed n)) t e (then_told {s = s} r d) = absurd (stepped s (grew k s r).open_now (answer.Routed n) t d)
   closes k (Some (answer.Refused x)) t e (then_told {s = s} r d) = absurd (stepped s (grew k s r).open_now (answer.Refused x) t d)

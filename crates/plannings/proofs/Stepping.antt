@@ -1,7 +1,7 @@
 -- What a step leaves.
 use Rattle.std.proofs.Common.{◌≡◌, ℕ, ◌+◌, ◌*◌, ◌^◌, ◌<◌, ◌≤◌, true, not, ◌&&◌, ltb, List, [], length, get_or, take, drop, None, sym, refl, ap, ◌∙◌, subst, subst₂, ⊎_elim, zero-add, arith, length-drop, get_or-drop, get_or-take, ext_get_or}
 use mathlib.Core.Path.{fun_ext}
-use Rattle.std.specs.List.{AllByRecursion as All}
+use Rattle.std.specs.List.{AllByRecursion}
 use Rattle.std.proofs.lemmas.List.FromFn.{length-map-range_with_len, get_or-map-range_with_len}
 use Rattle.std.proofs.lemmas.Bool.{cases_lt, le-ltb}
 use Rattle.routes.specs.Routes.{Ordered, Route}
@@ -217,11 +217,11 @@ module _ (n : ℕ) (m m' : List ℕ) (long : length m' ≡ length m) (q : Kept) 
       there : (i : ℕ) → 13 * n + n + i ≡ 14 * n + i
       there i = omega arith
 
-  found : Route (circuit_of m n) row × All (λ w. bars_of m n w ≡ true) row
+  found : Route (circuit_of m n) row × AllByRecursion (λ w. bars_of m n w ≡ true) row
   found =
       let d = (barred_decides (circuit_of m n) n m m' h.ordered (circuit_length m n h.room) h.loaded).0 height p in
-      subst (λ xs. Route (circuit_of m n) xs × All (λ w. bars_of m n w ≡ true) xs) row_is
-      (d.0, subst (λ b. All (λ w. b w ≡ true) (stack_list n m' height)) (bars_front n m m' p.rows.front long q h o) d.1)
+      subst (λ xs. Route (circuit_of m n) xs × AllByRecursion (λ w. bars_of m n w ≡ true) xs) row_is
+      (d.0, subst (λ b. AllByRecursion (λ w. b w ≡ true) (stack_list n m' height)) (bars_front n m m' p.rows.front long q h o) d.1)
 
   pub blocked_turned : Turned n m q (bare call.Step answer.Blocked) m' (blocked_kept q height)
   blocked_turned =

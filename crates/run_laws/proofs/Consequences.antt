@@ -1,6 +1,6 @@
 -- What the law of runs says of single calls and of two calls.
 use Rattle.std.proofs.Common.{◌≡◌, ℕ, zero, suc, ◌<◌, ◌≤◌, Bool, true, false, cond, not, ◌&&◌, ◌||◌, eqb, ◌⊎◌, List, [], ◌∷◌, ◌++◌, map, length, get_or, drop, replicate, Some, None, Option, sym, refl, ap, ◌∙◌, subst, ap₂, inl, inr, ⊎_elim, arith}
-use Rattle.std.specs.List.{AllByRecursion as All}
+use Rattle.std.specs.List.{AllByRecursion}
 use Rattle.std.proofs.ByRecursion.{All-get_or}
 use Rattle.std.proofs.lemmas.Bool.{true≢false, cases_Bool, eqb-true, or_cases, and_parts}
 use Rattle.circuits.specs.Answers.{number_of, first_fault}
@@ -28,7 +28,7 @@ abbrev In : Given → List Given → Type 0
 In g [] = ⊥
 In g (x ∷ xs) = (g ≡ x) ⊎ In g xs
 
-all_in : (P : Given → Type 0) (gs : List Given) (g : Given) → All P gs → In g gs → P g
+all_in : (P : Given → Type 0) (gs : List Given) (g : Given) → AllByRecursion P gs → In g gs → P g
 all_in P [] g a i = absurd i
 all_in P (x ∷ xs) g a i = ⊎_elim (λ e. subst P (sym e) a.0) (λ k. all_in P xs g a.1 k) i
 
@@ -63,7 +63,7 @@ apart_at bars (r ∷ rs) a (suc i) (suc j) h k n w p q = apart_at bars rs a.1 i 
 
 stand_apart : (c : List Making) (bars : Wires) (s : State) (k : ℕ) (gs : List Given) → RoutesStand c bars s k gs
     → (i j : ℕ) (r q : List ℕ) → In (i, r) gs → In (j, q) gs
-    → Route c r × (s ≡ state.Blocked → All (λ w. bars w ≡ true) r) × (i ≡ j → r ≡ q)
+    → Route c r × (s ≡ state.Blocked → AllByRecursion (λ w. bars w ≡ true) r) × (i ≡ j → r ≡ q)
     × ((i ≡ j → ⊥) → (w : ℕ) → has w r ≡ true → has w q ≡ true → bars w ≡ true)
 stand_apart c bars state.Open k gs st i j r q m n = absurd (subst (λ gs. In (i, r) gs) st m)
 stand_apart c bars state.Closed k gs st i j r q m n =
@@ -79,7 +79,7 @@ stand_apart c bars state.Blocked k gs st i j r q m n =
     let b : Is_at (st.0 ∷ []) (j, q) = all_in (Is_at (st.0 ∷ [])) gs (j, q) st.3 n in
     let same : st.0 ≡ r = sym (ap (λ i. get_or (st.0 ∷ []) i []) (first a.0)) ∙ a.1 in (
       subst (Route c) same st.1,
-      λ e. subst (λ r. All (λ w. bars w ≡ true) r) same st.2,
+      λ e. subst (λ r. AllByRecursion (λ w. bars w ≡ true) r) same st.2,
       λ e. sym a.1 ∙ ap (λ i. get_or (st.0 ∷ []) i []) e ∙ b.1,
       λ d. absurd (d (first a.0 ∙ sym (first b.0))),
     )
@@ -279,7 +279,7 @@ module _ (c : List Making) (ordered : Ordered c) (h : History) (new : epoch h �
       (λ t. absurd (not_blocked t.1)))
       (what_stepped c (barred h) m e.answer s.0)
 
-  grew : (steps : History) → All (λ e. e.call ≡ call.Step) steps → LawfulRun c (steps ++ h) → length steps ≤ length p → Grew steps (length steps)
+  grew : (steps : History) → AllByRecursion (λ e. e.call ≡ call.Step) steps → LawfulRun c (steps ++ h) → length steps ≤ length p → Grew steps (length steps)
   grew [] a l k = record { answers_are = refl; epoch_is = new; bars_are = refl }
   grew (e ∷ steps) a l k =
       let b : Grew steps (length steps) = grew steps a.1 l.0 (omega arith) in
@@ -292,7 +292,7 @@ module _ (c : List Making) (ordered : Ordered c) (h : History) (new : epoch h �
       (λ t. absurd (omega (arith, t.1)))
       (next_step e steps (length steps) a.0 b l.2)
 
-  closes : (steps : History) → All (λ e. e.call ≡ call.Step) steps → LawfulRun c (steps ++ h) → length steps ≡ suc (length p)
+  closes : (steps : History) → AllByRecursion (λ e. e.call ≡ call.Step) steps → LawfulRun c (steps ++ h) → length steps ≡ suc (length p)
       → map (λ e. e.answer) steps ≡ answer.Closed ∷ replicate (length p) answer.Grown
   closes [] a l k = absurd (omega arith)
   closes (e ∷ steps) a l k =

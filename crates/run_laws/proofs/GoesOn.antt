@@ -1,6 +1,6 @@
 -- Every call has an answer.
 use Rattle.std.proofs.Common.{◌≡◌, ℕ, ◌+◌, ◌<◌, ◌≤◌, false, cond, ltb, leb, List, [], ◌∷◌, ◌++◌, length, get_or, drop, Some, None, Option, sym, refl, ap, subst, ⊎_elim, arith}
-use Rattle.std.specs.List.{AllByRecursion as All}
+use Rattle.std.specs.List.{AllByRecursion}
 use Rattle.std.proofs.ByRecursion.{All-get_or}
 use Rattle.std.proofs.lemmas.Bool.{true≢false, cases_lt, leb-false, ltb-false}
 use Rattle.circuits.specs.Answers.{number_of, first_fault}
@@ -45,7 +45,7 @@ module _ (c : List Making) (ordered : Ordered c) where
       (λ b. (answer.Blocked, m, record { bars = s.bars; state = state.Blocked; routes = b.0 ∷ [] }, ((b.0, b.1, b.2, refl), refl)))
       (λ e. ⊎_elim
       (λ (l : length s.routes < length e.0).
-      let t : (rs : List (List ℕ)) × All (Route c) rs × Apart s.bars rs × (length rs ≡ length s.routes + 1) =
+      let t : (rs : List (List ℕ)) × AllByRecursion (Route c) rs × Apart s.bars rs × (length rs ≡ length s.routes + 1) =
       (routes_apart_up_to_size c ordered s.bars e.0 e.1.cheapest (length s.routes + 1)).1 (omega arith) in (
         answer.Grown,
         m,
@@ -86,10 +86,10 @@ module _ (c : List Making) (ordered : Ordered c) where
 
   -- as many routes are at hand as can be asked for
   at_hand : (bars : Wires) (z : State) (rs : List (List ℕ)) (gs : List Given) → Held c bars z rs gs → is_open z ≡ false
-      → All (Route c) rs × (offered z (counted z rs) ≡ length rs)
+      → AllByRecursion (Route c) rs × (offered z (counted z rs) ≡ length rs)
   at_hand bars state.Open rs gs h o = absurd (true≢false o)
   at_hand bars state.Closed rs gs h o = (h.0.0, refl)
-  at_hand bars state.Blocked rs gs h o = (subst (λ rs. All (Route c) rs) (sym h.1) (h.2, tt), sym (ap length h.1))
+  at_hand bars state.Blocked rs gs h o = (subst (λ rs. AllByRecursion (Route c) rs) (sym h.1) (h.2, tt), sym (ap length h.1))
 
   route_can : (s : Told) (gs : List Given) (i n : ℕ) (m : List ℕ) → Held c s.bars s.state s.routes gs → length m ≡ n
       → first_fault (faults c s.bars s.state (counted s.state s.routes) (call.Route i n)) ≡ None → Can s (call.Route i n) m None
@@ -98,7 +98,7 @@ module _ (c : List Making) (ordered : Ordered c) where
       let not_open : (is_open s.state ≡ false) × (cond (leb k i) (Some 13) (cond (ltb n (length c)) (Some 11) None) ≡ None) =
       passed (is_open s.state) 18 (cond (leb k i) (Some 13) (cond (ltb n (length c)) (Some 11) None)) f in
       let low : (leb k i ≡ false) × (cond (ltb n (length c)) (Some 11) None ≡ None) = passed (leb k i) 13 (cond (ltb n (length c)) (Some 11) None) not_open.1 in
-      let hand : All (Route c) s.routes × (k ≡ length s.routes) = at_hand s.bars s.state s.routes gs h not_open.0 in
+      let hand : AllByRecursion (Route c) s.routes × (k ≡ length s.routes) = at_hand s.bars s.state s.routes gs h not_open.0 in
       let below : i < length s.routes = omega (arith, leb-false k i low.0, hand.1) in
       let r : List ℕ = get_or s.routes i [] in
       let short : length r ≤ length c = route_short r (All-get_or (Route c) s.routes i [] below hand.0) in (

@@ -1,6 +1,6 @@
 -- Refusals by their numbers.
 use Rattle.std.proofs.Common.{◌≡◌, ℕ, ◌-◌, Bool, true, false, cond, List, [], ◌∷◌, get_or, Some, sym, refl, ap, ◌∙◌, subst}
-use Rattle.std.specs.List.{AllByRecursion as All}
+use Rattle.std.specs.List.{AllByRecursion}
 use Rattle.circuits.specs.Answers.{number_of, first_fault}
 use Rattle.circuits.specs.declared.answer.Refusal.{Refusal}
 use Rattle.circuits.specs.declared.answer.Refusal.TheVariants as refusal
@@ -43,7 +43,7 @@ one_refusal r s e = sym (numbered_again r) ∙ ap refusal_numbered e ∙ numbere
 
 -- tests whose numbers are those of refusals
 abbrev Numbered : List (Bool × ℕ) → Type 0
-Numbered fs = All (λ f. number_of (refusal_numbered f.1) ≡ f.1) fs
+Numbered fs = AllByRecursion (λ f. number_of (refusal_numbered f.1) ≡ f.1) fs
 
 first_numbered : (fs : List (Bool × ℕ)) → Numbered fs → (n : ℕ) → first_fault fs ≡ Some n → number_of (refusal_numbered n) ≡ n
 first_numbered [] a n e = absurd (some≢none n (sym e))

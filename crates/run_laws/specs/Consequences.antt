@@ -1,6 +1,6 @@
 -- What the law of runs says of single calls and of two calls.
 use Rattle.std.specs.Prelude.{◌≡◌, ℕ, suc, ◌≤◌, Bool, true, false, cond, not, ◌&&◌, ◌⊎◌, List, [], ◌∷◌, ◌++◌, map, length, take, replicate, ◌==◌, ◌≢◌}
-use Rattle.std.specs.List.{AllByRecursion as All}
+use Rattle.std.specs.List.{AllByRecursion}
 use Rattle.circuits.specs.Levels.{has}
 use Rattle.circuits.specs.declared.answer.Refusal.{Refusal}
 use Rattle.circuits.specs.declared.making.Making.{Making}
@@ -69,7 +69,7 @@ RoutesStayApart =
     (c : List Making) (h : History) → LawfulRun c h
     → (e f : Event) (i j : ℕ) (r q : List ℕ) → Since e h → Since f h → Gave e i r → Gave f j q
     → Route c r
-    × ((epoch h).state ≡ state.Blocked → All (λ w. barred h w ≡ true) r)
+    × ((epoch h).state ≡ state.Blocked → AllByRecursion (λ w. barred h w ≡ true) r)
     × (i ≡ j → r ≡ q)
     × ((i ≢ j) → (w : ℕ) → has w r ≡ true → has w q ≡ true → barred h w ≡ true)
 
@@ -90,7 +90,7 @@ abbrev pub KGrownThenClosed : Type 0
 KGrownThenClosed =
     (c : List Making) → Ordered c → (h : History) → epoch h ≡ new_epoch
     → (plan : List ℕ) → Smallest c (barred h) plan
-    → (steps : History) → All (λ e. e.call ≡ call.Step) steps → LawfulRun c (steps ++ h)
+    → (steps : History) → AllByRecursion (λ e. e.call ≡ call.Step) steps → LawfulRun c (steps ++ h)
     → (length steps ≤ length plan → map (λ e. e.answer) steps ≡ replicate (length steps) answer.Grown)
     × (length steps ≡ suc (length plan) → map (λ e. e.answer) steps ≡ answer.Closed ∷ replicate (length plan) answer.Grown)
 

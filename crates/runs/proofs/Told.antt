@@ -1,6 +1,6 @@
 -- Every run of calls that do what is told is lawful.
 use Rattle.std.proofs.Common.{◌≡◌, ℕ, ◌<◌, ◌≤◌, true, false, cond, not, eqb, ltb, leb, List, [], ◌∷◌, length, Some, None, Option, sym, refl, ap, ◌∙◌, subst, ap₂, ⊎_elim, arith}
-use Rattle.std.specs.List.{AllByRecursion as All}
+use Rattle.std.specs.List.{AllByRecursion}
 use Rattle.std.proofs.lemmas.Bool.{true≢false, cases_lt}
 use Rattle.circuits.specs.Answers.{first_fault}
 use Rattle.circuits.specs.declared.making.Making.{Making}
@@ -23,8 +23,8 @@ use Rattle.runs.specs.declared.calls.State.TheVariants as state
 abbrev pub Held : List Making → Wires → State → List (List ℕ) → List Given → Type 0
 Held c bars state.Open rs gs = StandApart c bars rs × (0 < length rs → Blocked c bars → ⊥) × (gs ≡ [])
 Held c bars state.Closed rs gs =
-    StandApart c bars rs × ((qs : List (List ℕ)) → StandApart c bars qs → length qs ≤ length rs) × (Blocked c bars → ⊥) × All (Is_at rs) gs
-Held c bars state.Blocked rs gs = (r : List ℕ) × (rs ≡ r ∷ []) × Route c r × All (λ w. bars w ≡ true) r × All (Is_at (r ∷ [])) gs
+    StandApart c bars rs × ((qs : List (List ℕ)) → StandApart c bars qs → length qs ≤ length rs) × (Blocked c bars → ⊥) × AllByRecursion (Is_at rs) gs
+Held c bars state.Blocked rs gs = (r : List ℕ) × (rs ≡ r ∷ []) × Route c r × AllByRecursion (λ w. bars w ≡ true) r × AllByRecursion (Is_at (r ∷ [])) gs
 
 -- what the history tells is what stands
 pub record Holds (c : List Making) (h : History) (s : Told) : Type 0 where
@@ -42,7 +42,7 @@ module _ (c : List Making) (ordered : Ordered c) where
   pub reach : (bars : Wires) (plan : List ℕ) (rs : List (List ℕ)) → Smallest c bars plan → StandApart c bars rs
       → ((qs : List (List ℕ)) → StandApart c bars qs → length qs ≤ length rs) → length rs ≡ length plan
   reach bars plan rs f a most =
-      let t : (qs : List (List ℕ)) × All (Route c) qs × Apart bars qs × (length qs ≡ length plan) = (routes_apart_up_to_size c ordered bars plan f (length plan)).1 (omega arith) in
+      let t : (qs : List (List ℕ)) × AllByRecursion (Route c) qs × Apart bars qs × (length qs ≡ length plan) = (routes_apart_up_to_size c ordered bars plan f (length plan)).1 (omega arith) in
       omega (arith, bound bars plan rs f a, most t.0 (t.1, t.2), t.3)
 
   routes_stand : (bars : Wires) (s : State) (rs : List (List ℕ)) (gs : List Given) → Held c bars s rs gs → RoutesStand c bars s (counted s rs) gs
@@ -168,7 +168,7 @@ module _ (c : List Making) (ordered : Ordered c) where
         bars_are = k.bars_are;
         state_is = refl;
         count_is = n;
-        held = (u.0, d.1, d.0, subst (λ gs. All (Is_at s.routes) gs) (sym u.2) tt);
+        held = (u.0, d.1, d.0, subst (λ gs. AllByRecursion (Is_at s.routes) gs) (sym u.2) tt);
       }
   stepped_next h s before answer.Blocked after t k o u n d =
       subst (λ t. Holds c (now call.Step before answer.Blocked after h) t) (sym d.3)
@@ -176,7 +176,7 @@ module _ (c : List Making) (ordered : Ordered c) where
         bars_are = k.bars_are;
         state_is = refl;
         count_is = n ∙ none;
-        held = (d.0, refl, d.1, d.2, subst (λ gs. All (Is_at (d.0 ∷ [])) gs) (sym u.2) tt);
+        held = (d.0, refl, d.1, d.2, subst (λ gs. AllByRecursion (Is_at (d.0 ∷ [])) gs) (sym u.2) tt);
       }
     where
       none : length s.routes ≡ 0

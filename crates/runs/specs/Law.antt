@@ -18,7 +18,7 @@
 --   and a refusal alters nothing.                                                            `RefusedBy`: the memory lent stays; and neither `barred` nor
 --                                                                                            `epoch` is another after a call that was refused
 use Rattle.std.specs.Prelude.{◌≡◌, ℕ, ◌<◌, ◌≤◌, Bool, true, false, not, List, [], ◌∷◌, ◌++◌, length, drop, Some, None, Option, nat_le, nat_lt, slice_index_or}
-use Rattle.std.specs.List.{AllByRecursion as All}
+use Rattle.std.specs.List.{AllByRecursion}
 use Rattle.circuits.specs.Answers.{number_of, first_fault}
 use Rattle.circuits.specs.Levels.{produced_at}
 use Rattle.circuits.specs.declared.answer.Refusal.{Refusal}
@@ -111,9 +111,9 @@ Is_at rs g = (g.0 < length rs) × (slice_index_or rs g.0 [] ≡ g.1)
 abbrev pub RoutesStand : List Making → Wires → State → ℕ → List Given → Type 0
 RoutesStand c bars state.Open k gs = gs ≡ []
 RoutesStand c bars state.Closed k gs =
-    (rs : List (List ℕ)) × All (Route c) rs × Apart bars rs × (length rs ≡ k) × All (Is_at rs) gs
+    (rs : List (List ℕ)) × AllByRecursion (Route c) rs × Apart bars rs × (length rs ≡ k) × AllByRecursion (Is_at rs) gs
 RoutesStand c bars state.Blocked k gs =
-    (r : List ℕ) × Route c r × All (λ w. bars w ≡ true) r × All (Is_at (r ∷ [])) gs
+    (r : List ℕ) × Route c r × AllByRecursion (λ w. bars w ≡ true) r × AllByRecursion (Is_at (r ∷ [])) gs
 
 -- that at the end of a history
 abbrev pub RoutesAt : List Making → History → Type 0

@@ -1,6 +1,6 @@
 -- What each call does to a planning that keeps a flow and what its last search marked.
 use Rattle.std.specs.Prelude.{◌≡◌, ℕ, ◌+◌, Bool, true, List, length, Some, None, Option}
-use Rattle.std.specs.List.{AllByRecursion as All}
+use Rattle.std.specs.List.{AllByRecursion}
 use Rattle.circuits.specs.Answers.{first_fault}
 use Rattle.circuits.specs.Levels.{has}
 use Rattle.circuits.specs.declared.making.Making.{Making}
@@ -62,7 +62,7 @@ pub record Closes (c : List Making) (s t : Standing) : Type 0 where
 pub record Blocks (c : List Making) (s t : Standing) : Type 0 where
   pub row : List ℕ
   pub route : Route c row
-  pub all_barred : All (λ w. s.bars w ≡ true) row
+  pub all_barred : AllByRecursion (λ w. s.bars w ≡ true) row
   pub now_is : t ≡ record { bars = s.bars; flow = s.flow; stage = blocked_by row }
 
 -- a step, by what it answers

@@ -1,6 +1,6 @@
 -- Calls that keep a flow and a search do what is told of routes.
 use Rattle.std.specs.Prelude.{◌≡◌, ℕ, ◌<◌, true, List, [], ◌∷◌, length}
-use Rattle.std.specs.List.{AllByRecursion as All}
+use Rattle.std.specs.List.{AllByRecursion}
 use Rattle.circuits.specs.declared.making.Making.{Making}
 use Rattle.routes.specs.Routes.{Ordered, Wires, Route}
 use Rattle.routes.specs.Plans.{ones, Blocked}
@@ -15,7 +15,7 @@ use Rattle.runs.specs.Machine.{Stage, still_open, closed_by, blocked_by, tells, 
 abbrev pub Seen : List Making → Wires → Flow → Stage → List (List ℕ) → Type 0
 Seen c bars x still_open rs = Traces x 0 rs × (length rs ≡ value c x) × (0 < value c x → Blocked c bars → ⊥)
 Seen c bars x (closed_by mark) rs = Traces x 0 rs × (length rs ≡ value c x) × Closed c bars ones x mark
-Seen c bars x (blocked_by r) rs = (rs ≡ r ∷ []) × (value c x ≡ 0) × Route c r × All (λ w. bars w ≡ true) r
+Seen c bars x (blocked_by r) rs = (rs ≡ r ∷ []) × (value c x ≡ 0) × Route c r × AllByRecursion (λ w. bars w ≡ true) r
 
 -- what is kept shows these bars, this state and these routes
 pub record Shows (c : List Making) (s : Standing) (t : Told) : Type 0 where

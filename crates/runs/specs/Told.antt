@@ -1,6 +1,6 @@
 -- What each call does to a planning, in terms of its bars, its state and the routes that it has. The routes are free but for what is said here.
 use Rattle.std.specs.Prelude.{◌≡◌, ℕ, ◌+◌, ◌≤◌, true, false, List, [], ◌∷◌, length, Some, None, Option}
-use Rattle.std.specs.List.{AllByRecursion as All}
+use Rattle.std.specs.List.{AllByRecursion}
 use Rattle.circuits.specs.Answers.{first_fault}
 use Rattle.circuits.specs.declared.making.Making.{Making}
 use Rattle.routes.specs.Routes.{Ordered, Wires, Route}
@@ -34,7 +34,7 @@ opened bars = record { bars = bars; state = state.Open; routes = [] }
 
 -- rows that are routes, of which no two share an unbarred wire
 abbrev pub StandApart : List Making → Wires → List (List ℕ) → Type 0
-StandApart c bars rs = All (Route c) rs × Apart bars rs
+StandApart c bars rs = AllByRecursion (Route c) rs × Apart bars rs
 
 -- a step: one route more, or none more can stand, or one of barred wires
 abbrev pub StepTold : List Making → Told → Answer → Told → Type 0
@@ -47,7 +47,7 @@ StepTold c s answer.Closed t =
     × ((rs : List (List ℕ)) → StandApart c s.bars rs → length rs ≤ length s.routes)
     × (t ≡ record { bars = s.bars; state = state.Closed; routes = s.routes })
 StepTold c s answer.Blocked t =
-    (r : List ℕ) × Route c r × All (λ w. s.bars w ≡ true) r × (t ≡ record { bars = s.bars; state = state.Blocked; routes = r ∷ [] })
+    (r : List ℕ) × Route c r × AllByRecursion (λ w. s.bars w ≡ true) r × (t ≡ record { bars = s.bars; state = state.Blocked; routes = r ∷ [] })
 StepTold c s (answer.Planned k) t = ⊥
 StepTold c s (answer.Routed n) t = ⊥
 StepTold c s (answer.Refused r) t = ⊥
