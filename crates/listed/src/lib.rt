@@ -88,8 +88,7 @@ impl Graph for Listed {
 }
 
 // Marks what steps reach, for callers in other languages: 0, or the number of the refusal.
-#[unsafe(no_mangle)]
-pub extern "C" fn mark_listed(memory: &mut [u32], places: u32, targets: u32) -> u32
+pub fn mark_listed(memory: &mut [u32], places: u32, targets: u32) -> u32
     ensures { MarksByNumber places targets memory.old memory.new result }
 {
     match Listed::new(places, targets) {
