@@ -1,5 +1,5 @@
 -- What a search over the steps by number gives.
-use Rattle.std.proofs.Common.{◌≡◌, ℕ, zero, suc, ◌+◌, ◌-◌, ◌*◌, ◌/◌, ◌%◌, ◌<◌, true, false, not, eqb, ltb, ◌⊎◌, List, get_or, sym, refl, ap, ◌∙◌, subst, subst₂, ⊎_elim, add-one, arith}
+use Rattle.std.proofs.Common.{◌≡◌, ℕ, zero, suc, ◌+◌, ◌-◌, ◌*◌, ◌/◌, ◌%◌, ◌<◌, true, not, eqb, ltb, ◌⊎◌, List, get_or, sym, refl, ap, ◌∙◌, subst, subst₂, ⊎_elim, add-one, arith}
 use Rattle.std.proofs.lemmas.Bool.{true≢false, cases_Bool, and_parts, and_from, eqb-true, eqb-false, eq-eqb, ne_eqb, lt-ltb, ltb-true, not-true}
 use Rattle.routes.specs.Routes.{Multiplies, IsProduct, Ordered, Ends}
 use Rattle.routes.specs.Plans.{ones}

@@ -1,5 +1,5 @@
 -- A set of wires as ascending ranks.
-use Rattle.std.proofs.Common.{◌≡◌, ℕ, ◌+◌, ◌-◌, ◌<◌, ◌≤◌, Bool, true, false, ◌&&◌, ◌||◌, eqb, ltb, ◌⊎◌, List, [], ◌∷◌, ◌++◌, length, take, drop, set, sym, refl, ap, ◌∙◌, subst, ap₂, ⊎_elim, arith, length-set, drop-set-lt}
+use Rattle.std.proofs.Common.{◌≡◌, ℕ, ◌+◌, ◌<◌, ◌≤◌, Bool, true, false, ◌&&◌, ◌||◌, eqb, ltb, List, [], ◌∷◌, ◌++◌, length, take, drop, set, sym, refl, ap, ◌∙◌, subst, ap₂, ⊎_elim, arith, length-set, drop-set-lt}
 use Rattle.std.specs.List.{AllByRecursion}
 use Rattle.std.proofs.ByRecursion.{All-weaker}
 use Rattle.std.proofs.lemmas.List.{take_more_set, drop-drop}
@@ -7,7 +7,7 @@ use Rattle.std.proofs.lemmas.Bool.{cases_order, eq-eqb, ne_eqb, lt-ltb, le-ltb}
 use Rattle.circuits.specs.Levels.{has}
 use Rattle.routes.specs.Routes.{Wires}
 use Rattle.routes.specs.Ranks.{Ascending}
-use Rattle.routes.specs.Sums.{ranks, one_if}
+use Rattle.routes.specs.Sums.{one_if}
 use Rattle.routes.proofs.Traces.{prefix_le}
 use Rattle.flows.specs.Listing.{count, Listing}
 use Rattle.flows.proofs.Units.{sum_more}

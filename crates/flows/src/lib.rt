@@ -1,5 +1,7 @@
 // The flow of a planning, kept as numbers in the rows of lent memory: grown along paths, traced as routes, and closed as a plan.
 // The functions here carry theorems in their contracts, and do nothing.
+#![tactic(auto)]
+
 ghost use Rattle.flows.specs.Stacks.{PathsAreTrails};
 ghost use Rattle.flows.specs.Residual.{ResidualLength, ResidualInside, ResidualSteps};
 ghost use Rattle.flows.specs.Found.{FoundIsStack, MissedIsClosed};

@@ -1,4 +1,4 @@
-use Rattle.std.proofs.Common.{◌<◌, ◌⊎◌, sym, ◌∙◌, ⊎_elim, arith}
+use Rattle.std.proofs.Common.{◌<◌, sym, ◌∙◌, ⊎_elim, arith}
 use Rattle.routes.specs.Routes.{at}
 use Rattle.routes.specs.Stored.{Second}
 use Rattle.rows.specs.Rows.{cell}

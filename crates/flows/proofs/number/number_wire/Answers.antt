@@ -1,4 +1,4 @@
-use Rattle.std.proofs.Common.{◌≡◌, ℕ, ◌+◌, ◌<◌, ◌⊎◌, sym, ap, ◌∙◌, subst, inl, inr, ⊎_elim, arith}
+use Rattle.std.proofs.Common.{◌≡◌, ℕ, ◌+◌, ◌<◌, sym, ap, ◌∙◌, subst, inl, inr, ⊎_elim, arith}
 use Rattle.rows.specs.Rows.{cell}
 use Rattle.flows.specs.Numbers.{Numbering, noted}
 use Rattle.flows.proofs.Numbers.{turn_none, one_few, turn_one, two_few, turn_two, kind_operands}
