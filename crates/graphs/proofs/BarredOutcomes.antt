@@ -1,6 +1,6 @@
 -- What a search over the barred graph decides.
-use Rattle.std.proofs.Common.{◌≡◌, ℕ, zero, suc, ◌+◌, ◌-◌, ◌*◌, ◌<◌, ◌≤◌, true, false, not, ◌&&◌, eqb, ltb, List, map, length, get_or, sym, refl, ap, ◌∙◌, subst, ⊎_elim, add-one, arith}
-use Rattle.std.specs.List.{range_with_len, AllByRecursion as All}
+use Rattle.std.proofs.Common.{◌≡◌, ℕ, zero, suc, ◌+◌, ◌-◌, ◌*◌, ◌<◌, ◌≤◌, true, not, ◌&&◌, eqb, ltb, List, map, length, get_or, sym, refl, ap, ◌∙◌, subst, ⊎_elim, add-one, arith}
+use Rattle.std.specs.List.{range_with_len, AllByRecursion}
 use Rattle.std.proofs.lemmas.Bool.{true≢false, cases_Bool, and_parts, and_from, cond-true, cond-false, eqb-true, eq-eqb, lt-ltb, ltb-true, not-false}
 use Rattle.circuits.specs.declared.making.Making.{Making}
 use Rattle.routes.specs.Routes.{Multiplies, IsProduct, Passes, Ordered, Joined, last, Ends, Route, Ahead, starts, goes_on}
@@ -31,7 +31,7 @@ module _ (c : List Making) (s : ℕ → ℕ) where
   last_joined a zero = ap s (omega arith)
   last_joined a (suc k) = last_joined (a + 1) k ∙ ap s (omega arith)
 
-  all_counted : (P : ℕ → Type 0) (a k : ℕ) → ((j : ℕ) → a ≤ j → j < a + k → P (s j)) → All P (map s (range_with_len a k))
+  all_counted : (P : ℕ → Type 0) (a k : ℕ) → ((j : ℕ) → a ≤ j → j < a + k → P (s j)) → AllByRecursion P (map s (range_with_len a k))
   all_counted P a zero h = tt
   all_counted P a (suc k) h = (h a (omega arith) (omega arith), all_counted P (a + 1) k (λ j l u. h j (omega arith) (omega arith)))
 
@@ -126,7 +126,7 @@ module _ (c : List Making) (n : ℕ) (m : List ℕ) (ordered : Ordered c) (long 
       subst (Ends c) (ap at_height (omega arith) ∙ sym (last_joined c at_height 0 k)) (goal_ends (at_height (h - 1)) t.last),
     )
 
-    route_here : Route c (stack_list n m h) × All (λ w. bars_of m n w ≡ true) (stack_list n m h)
+    route_here : Route c (stack_list n m h) × AllByRecursion (λ w. bars_of m n w ≡ true) (stack_list n m h)
     route_here =
         let e : h ≡ suc (h - 1) = omega (arith, t.some) in (
           subst (λ k. Route c (map at_height (range_with_len 0 k))) (sym e) (is_route (h - 1) e),

@@ -11,7 +11,7 @@ use Rattle.rows.specs.Rows.{cell}
 use Rattle.rows.proofs.Feeding.{fed_right, fed_all}
 use Rattle.flows.specs.Stacks.{stacked as height}
 use Rattle.flows.specs.Residual.{In, residual}
-use Rattle.flows.specs.Found.{chosen, goal, Comes, start as comes-first, onward as comes-on, Found, Missed as Flow-missed}
+use Rattle.flows.specs.Found.{chosen, goal, Comes, start as comes_first, onward as comes_on, Found, Missed as FlowMissed}
 use Rattle.flows.proofs.Residual.{residual_inside, residual_same}
 use Rattle.flows.proofs.Found.{found_is_stack, missed_is_closed}
 use Rattle.graphs.specs.Fronts.{front_of, lists_of}
@@ -76,12 +76,12 @@ module _ (n : ℕ) (m : List ℕ) where
       (cases_lt p (2 * n))
 
   reaches_comes : {p : ℕ} → Reaches (2 * n) lists (chosen front n) p → Comes m n feeds p
-  reaches_comes (start {q = q} l h) = comes-first l (sym (chosen_same q) ∙ h)
-  reaches_comes (onward {p = p} {q = q} r s) = comes-on (reaches_comes r) (step_in p q s)
+  reaches_comes (start {q = q} l h) = comes_first l (sym (chosen_same q) ∙ h)
+  reaches_comes (onward {p = p} {q = q} r s) = comes_on (reaches_comes r) (step_in p q s)
 
   comes_reaches : {p : ℕ} → Comes m n feeds p → (p < 2 * n) × Reaches (2 * n) lists (chosen front n) p
-  comes_reaches (comes-first {q = q} l h) = (l, start l (chosen_same q ∙ h))
-  comes_reaches (comes-on {p = p} {q = q} c i) =
+  comes_reaches (comes_first {q = q} l h) = (l, start l (chosen_same q ∙ h))
+  comes_reaches (comes_on {p = p} {q = q} c i) =
       let r : (p < 2 * n) × Reaches (2 * n) lists (chosen front n) p = comes_reaches c in
       (residual_inside m n feeds p q r.0 i, onward r.1 (subst (In q) (sym (row_same p r.0)) i))
 
@@ -104,7 +104,7 @@ module _ (n : ℕ) (m : List ℕ) where
         last = sym (goal_same (height m n (h - 1))) ∙ ap (goal front n) (sym (height_same (h - 1))) ∙ t.last;
       }
 
-  missed_here : Missed lists (goal front n) (chosen front n) (13 * n) (2 * n) m → Flow-missed m n feeds
+  missed_here : Missed lists (goal front n) (chosen front n) (13 * n) (2 * n) m → FlowMissed m n feeds
   missed_here t =
       record {
         sound = λ p l k. reaches_comes (t.marks.sound p l k);

@@ -1,13 +1,13 @@
 -- What a search over the two graphs decides. m is the memory before the search and m' the one after it; the circuit c of n wires is loaded.
 use Rattle.std.specs.Prelude.{◌≡◌, ℕ, ◌*◌, true, List, map, length, take}
-use Rattle.std.specs.List.{range_with_len, AllByRecursion as All}
+use Rattle.std.specs.List.{range_with_len, AllByRecursion}
 use Rattle.circuits.specs.declared.making.Making.{Making}
 use Rattle.routes.specs.Routes.{Ordered, Route}
 use Rattle.routes.specs.Plans.{ones, Blocked}
 use Rattle.routes.specs.Residuals.{Closed}
 use Rattle.search.specs.Graphs.{Meaning}
 use Rattle.search.specs.Rows.{stacked}
-use Rattle.search.specs.Searches.{RowsOnly, Reached, Missed as None-reached}
+use Rattle.search.specs.Searches.{RowsOnly, Reached, Missed as NoneReached}
 use Rattle.rows.specs.Held.{circuit_of, bars_of}
 use Rattle.rows.specs.Fed.{Loaded}
 use Rattle.flows.specs.Kept.{flow_in}
@@ -25,7 +25,7 @@ pub record PathFound (t : Meaning) (m m' : List ℕ) (h : ℕ) : Type 0 where
 -- a search over the graph t has marked what steps reach, and no goal is among it
 pub record NoneFound (t : Meaning) (m m' : List ℕ) : Type 0 where
   pub rows : RowsOnly t m m'
-  pub missed : None-reached (t.steps (take t.extent m)) (t.goal (take t.extent m)) (t.chosen (take t.extent m)) t.extent t.many m'
+  pub missed : NoneReached (t.steps (take t.extent m)) (t.goal (take t.extent m)) (t.chosen (take t.extent m)) t.extent t.many m'
 
 -- the lists in front of a memory
 abbrev pub lists_in : List ℕ → ℕ → ℕ → List ℕ
@@ -59,5 +59,5 @@ stack_list n m h = map (stacked (13 * n) n m) (range_with_len 0 h)
 abbrev pub BarredDecides : Type 0
 BarredDecides =
     (c : List Making) (n : ℕ) (m m' : List ℕ) → Ordered c → length c ≡ n → Loaded c n m
-    → ((h : ℕ) → PathFound (barred_graph n) m m' h → Route c (stack_list n m' h) × All (λ w. bars_of m' n w ≡ true) (stack_list n m' h))
+    → ((h : ℕ) → PathFound (barred_graph n) m m' h → Route c (stack_list n m' h) × AllByRecursion (λ w. bars_of m' n w ≡ true) (stack_list n m' h))
     × (NoneFound (barred_graph n) m m' → Blocked c (bars_of m' n) → ⊥)

@@ -1,5 +1,7 @@
 // The two graphs of a planning over the rows of its memory, and what a search over them decides.
 // The functions here carry theorems in their contracts, and do nothing.
+#![tactic(auto)]
+
 ghost use Rattle.graphs.specs.Fronts.{RowsInFront, ListsAreFed, LoadedByFront};
 ghost use Rattle.graphs.specs.Outcomes.{ResidualOutcomes, LoadFeeds, ResidualDecides, BarredDecides};
 

@@ -128,21 +128,21 @@ begins_at t seek base n m m₁ m₂ ins e d kept clear o x =
     (subst (λ y. Begins t seek y n m m₂ o) e (begins t seek base n m m₁ m₂ (inside_at t base n m ins e d) kept clear o x))
 
 -- what a hunt from any marks says
-abbrev pub Goes_on : Meaning → ℕ → ℕ → List ℕ → List ℕ → ℕ → Outcome → Type 0
-Goes_on t base n m m₂ from o =
+abbrev pub GoesOn : Meaning → ℕ → ℕ → List ℕ → List ℕ → ℕ → Outcome → Type 0
+GoesOn t base n m m₂ from o =
     let f = take base m in
     Kept base (base + 3 * n) m m₂
     × Ends (λ h next. Stopped (t.steps f) (t.goal f) (t.chosen f) base n (mark base m) m₂ from h next)
     (Exhausted (t.steps f) (t.goal f) (t.chosen f) base n (mark base m) m₂ from) o
 
-goes_on : (t : Meaning) (base n : ℕ) (m m₂ : List ℕ) (from : ℕ) → Inside n (t.steps (take base m)) → (o : Outcome) → Hunted t true base n m m₂ from o → Goes_on t base n m m₂ from o
+goes_on : (t : Meaning) (base n : ℕ) (m m₂ : List ℕ) (from : ℕ) → Inside n (t.steps (take base m)) → (o : Outcome) → Hunted t true base n m m₂ from o → GoesOn t base n m m₂ from o
 goes_on t base n m m₂ from ins (Found h next) x = (x.arrived.walk.kept, stopped t true base n m m₂ from h next x)
 goes_on t base n m m₂ from ins Nothing x = (x.0.kept, exhausted _ _ _ base n m m₂ from ins x.0 x.1)
 
 pub goes_on_at : (t : Meaning) (base n : ℕ) (m m₂ : List ℕ) (from : ℕ) → Inside t.many (t.steps (take t.extent m)) → base ≡ t.extent → n ≡ t.many → (o : Outcome) → Hunted t true base n m m₂ from o
-    → Goes_on t t.extent t.many m m₂ from o
+    → GoesOn t t.extent t.many m m₂ from o
 goes_on_at t base n m m₂ from ins e d o x =
-    subst (λ y. Goes_on t t.extent y m m₂ from o) d (subst (λ y. Goes_on t y n m m₂ from o) e (goes_on t base n m m₂ from (inside_at t base n m ins e d) o x))
+    subst (λ y. GoesOn t t.extent y m m₂ from o) d (subst (λ y. GoesOn t y n m m₂ from o) e (goes_on t base n m m₂ from (inside_at t base n m ins e d) o x))
 
 -- where no goal is looked for, none is found
 pub only_marks : (t : Meaning) (base n : ℕ) (m m₂ : List ℕ) (o : Outcome) → Begins t false base n m m₂ o
