@@ -1,4 +1,6 @@
 // Reading for a caller in C or Rust. The entries lie in memory of their own, since no enum crosses.
+#![tactic(auto)]
+
 ghost use Rattle.std.specs.Prelude.{◌≡◌};
 ghost use Rattle.bristol_c.specs.Reports.{reported, Told};
 

@@ -1,4 +1,6 @@
 // Reads each text of a table, and says where an answer is not the one in the table.
+#![tactic(auto)]
+
 mod cases;
 
 use cases::{CASES, Case, Left};

@@ -1,4 +1,6 @@
 // Reads a circuit text from standard input and writes the circuit back to standard output, or says why it is refused and where.
+#![tactic(auto)]
+
 use circuits::making::{Entry, Making};
 use reading::LONGEST_TEXT;
 use reading::table::read_table;
