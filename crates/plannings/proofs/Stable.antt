@@ -6,7 +6,6 @@ use Rattle.circuits.specs.Circuits.{Feeds}
 use Rattle.circuits.specs.declared.making.Making.{Making}
 use Rattle.circuits.specs.declared.making.Making.TheVariants.{Input, Constant, Copy, Inversion, Sum, Product}
 use Rattle.routes.specs.Routes.{at, Ends}
-use Rattle.routes.specs.Plans.{Blocked}
 use Rattle.routes.proofs.Tests.{product?, product_from, product_true, ends?, ends_from, ends_true}
 use Rattle.rows.specs.Rows.{cell}
 use Rattle.rows.specs.Held.{circuit_of}

@@ -1,7 +1,7 @@
 -- What a planning tells of itself.
-use Rattle.std.proofs.Common.{◌≡◌, ℕ, Bool, List, sym, refl, ap, ◌∙◌, subst}
+use Rattle.std.proofs.Common.{◌≡◌, ℕ, Bool, List, sym, ap, ◌∙◌}
 use Rattle.rows.specs.Held.{circuit_of, bars_of}
-use Rattle.flows.specs.Kept.{flow_in, routes_in}
+use Rattle.flows.specs.Kept.{flow_in}
 use Rattle.flows.specs.Listing.{count}
 use Rattle.runs.specs.Shown.{Seen}
 use Rattle.runs.specs.Told.{counted}

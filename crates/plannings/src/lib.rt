@@ -1,4 +1,6 @@
 // Plannings: the calls over lent memory, and runs of them.
+#![tactic(auto)]
+
 ghost use Rattle.std.specs.Prelude.{◌≡◌, ◌*◌, ◌<◌, false, length, drop};
 ghost use Rattle.circuits.specs.Answers.{first_fault};
 ghost use Rattle.circuits.specs.Circuits.{width};
@@ -72,7 +74,7 @@ pub fn plan_circuit<C: Circuit>(
     ensures unaltered { length memory.old < 24 * width (C.Circuit.meaning circuit.now) → memory.new ≡ memory.old }
 {
     let wires = circuit.wires() as usize;
-    if memory.len() < ROWS * wires {
+    if ROWS * wires > memory.len() {
         return Err(Refusal::MemoryTooShort);
     }
     let mut planning = Planning::new(circuit, &mut memory[0..ROWS * wires]);

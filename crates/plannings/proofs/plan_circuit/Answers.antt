@@ -9,8 +9,8 @@ use Rattle.plannings.proofs.Planned.{too_short, long_enough}
 use Rattle.plannings.proofs.Lending.{past_same}
 use Rattle.plannings.proofs.plan_circuit.Goals as goal
 
-pub returns-then-memory-wires : goal.returns-then-memory-wires
-returns-then-memory-wires g c =
+pub returns-then-wires-memory : goal.returns-then-wires-memory
+returns-then-wires-memory g c =
     let t = g.C.Circuit.meaning c.args.circuit.now in
     record {
       planned =
@@ -27,12 +27,12 @@ returns g c =
     let before = c.args.room.now in
     let after = c.finish.new.room in
     let r = c.finish.result in
-    let new = c.new-planning.ensures.made (omega (arith, c.wires-wires.ensures, length-take-le (24 * c.wires-wires.result) c.args.memory.now c.if-memory-wires.false)) in
+    let new = c.new-planning.ensures.made (omega (arith, c.wires-wires.ensures, length-take-le (24 * c.wires-wires.result) c.args.memory.now c.if-wires-memory.false)) in
     record {
       planned =
           long_enough t.makings _ before r after (le-ltb (length c.args.memory.now) (24 * width t) (omega (arith, c.wires-wires.ensures)))
           (subst (λ x. PlansFree x false before r after) new.circuit
           (c.finish.ensures (subst Ordered (sym new.circuit) ordered) (ap length new.circuit ∙ sym c.wires.ensures) new.shows));
-      past = past_same _ _ _ _ (ap (λ n. 24 * n) c.wires-wires.ensures) c.if-memory-wires.false (omega arith);
+      past = past_same _ _ _ _ (ap (λ n. 24 * n) c.wires-wires.ensures) c.if-wires-memory.false (omega arith);
       unaltered = λ l. absurd (omega (arith, c.wires-wires.ensures));
     }

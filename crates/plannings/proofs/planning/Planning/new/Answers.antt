@@ -6,7 +6,7 @@ use Rattle.plannings.proofs.Beginning.{ready_none, ready_fresh, new_fresh}
 use Rattle.plannings.proofs.planning.Planning.new.Goals as goal
 
 pub invariant_of-result : goal.invariant_of-result
-invariant_of-result g c = (∣ subst (λ q. Ready 0 c.args.memory.now q) (sym c.opened_kept.ensures) (ready_none c.args.memory.now) ∣₁, tt)
+invariant_of-result g c = record { ready = ∣ subst (λ q. Ready 0 c.args.memory.now q) (sym c.opened-kept.ensures) (ready_none c.args.memory.now) ∣₁ }
 
 pub invariant_of-result-2 : goal.invariant_of-result-2
 invariant_of-result-2 g c =
@@ -15,7 +15,7 @@ invariant_of-result-2 g c =
     let n = c.wires-wires.result in
     let m = c.load.new.memory in
     let room : Room n m = record { few = omega (arith, c.wires-wires.ensures, lawful.most); rows = omega (arith, c.load.auto.memory) } in
-    (∣ subst (λ q. Ready n m q) (sym c.opened_kept.ensures) (ready_fresh t.makings n m room (lawful_is_ordered t lawful) c.load.ensures) ∣₁, tt)
+    record { ready = ∣ subst (λ q. Ready n m q) (sym c.opened-kept.ensures) (ready_fresh t.makings n m room (lawful_is_ordered t lawful) c.load.ensures) ∣₁ }
 
 pub returns : goal.returns
 returns g c =
@@ -25,7 +25,7 @@ returns g c =
     let m = c.load.new.memory in
     let room : Room n m = record { few = omega (arith, c.wires-wires.ensures, lawful.most); rows = omega (arith, c.load.auto.memory) } in
     record {
-      made = λ l. subst (λ q. New t.makings n m q) (sym c.opened_kept.ensures) (new_fresh t.makings n m room (lawful_is_ordered t lawful) c.load.ensures);
+      made = λ l. subst (λ q. New t.makings n m q) (sym c.opened-kept.ensures) (new_fresh t.makings n m room (lawful_is_ordered t lawful) c.load.ensures);
       short = λ l. absurd (omega (arith, c.wires-wires.ensures));
       lends = refl;
     }

@@ -13,7 +13,7 @@ pub invariant_of-self : goal.invariant_of-self
 invariant_of-self c =
     let p = c.args.self.now.inner in
     let q = c.step.new.self in
-    (∣ still_ready p.wires q.wires q.memory.now q.kept c.step.ensures.wires c.step.ensures.turned.ready ∣₁, tt)
+    record { ready = ∣ still_ready p.wires q.wires q.memory.now q.kept c.step.ensures.wires c.step.ensures.turned.ready ∣₁ }
 
 pub returns : goal.returns
 returns c =
