@@ -1,4 +1,6 @@
 // The printed plan of a circuit's text.
+#![tactic(auto)]
+
 mod lines;
 
 ghost use Rattle.std.specs.Prelude.{◌≡◌, ◌*◌, ◌≤◌, true, length, take, drop, nat_lt};

@@ -1,4 +1,4 @@
-use Rattle.std.proofs.Common.{◌≡◌, length}
+use Rattle.std.proofs.Common.{length}
 use Rattle.reading.specs.Texts.{outcome}
 use Rattle.printing.proofs.Readings.{printed_plan, printed_fault}
 use Rattle.printing.proofs.print.Goals as goal

@@ -2,7 +2,7 @@ use Rattle.std.proofs.Common.{◌≡◌, ◌-◌, length, take, Err, sym, refl, 
 use Rattle.std.proofs.lemmas.Result.{err_from_is_err_and}
 use Rattle.reading.specs.Texts.{outcome}
 use Rattle.printing.specs.Printed.{PrintsRead, short_for}
-use Rattle.printing.proofs.Readings.{Filled, filled_of, accepted_front, read_printed, read_past, read_refused}
+use Rattle.printing.proofs.Readings.{filled_of, accepted_front, read_printed, read_past, read_refused}
 use Rattle.printing.proofs.print_read.Goals as goal
 
 pub returns-in_err-header : goal.returns-in_err-header

@@ -1,4 +1,4 @@
-use Rattle.std.proofs.Common.{◌≡◌, ℕ, List, [], ◌∷◌, ◌++◌, length, codes, decimal, sym, ap, subst}
+use Rattle.std.proofs.Common.{ℕ, List, [], ◌∷◌, ◌++◌, length, codes, decimal, sym, subst}
 use lib.ListN.{length-map}
 use Rattle.writing.specs.Laid.{Room, Laid}
 use Rattle.writing.specs.Writes.{name_of}
