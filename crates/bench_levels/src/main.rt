@@ -1,5 +1,7 @@
 // How fast a level run is: over the widest matching circuit, and over a table of as many wires as a circuit may have.
 //   bench_levels RUNS    times so many runs of each
+#![tactic(auto)]
+
 use anyhow::anyhow;
 use circuits::answer::Levels;
 use circuits::circuit::Circuit;

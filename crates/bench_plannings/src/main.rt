@@ -1,5 +1,7 @@
 // How fast a planning is: reads a circuit's text from standard input, steps to the end, and tells the times.
 //   bench_plannings time < CIRCUIT
+#![tactic(auto)]
+
 use circuits::circuit::Circuit;
 use circuits::making::{Entry, Making};
 use plannings::run_calls;

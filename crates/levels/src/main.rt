@@ -1,6 +1,8 @@
 // Works out a matching circuit and runs levels on it, with and without a plan.
 //   levels                    the built-in examples
 //   levels WIDTH [RANK ..]    the matching circuit of that width, with the ranks as its plan
+#![tactic(auto)]
+
 use anyhow::anyhow;
 use circuits::answer::Levels;
 use circuits::circuit::Circuit;

@@ -1,4 +1,6 @@
 // Runs lists of calls on plannings of built-in circuits, through the call that carries the law of runs, and prints each answer.
+#![tactic(auto)]
+
 use circuits::making::{Entry, Making};
 use circuits::table::Table;
 use plannings::run_calls;

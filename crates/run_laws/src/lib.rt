@@ -1,4 +1,6 @@
 // What the law of runs says of single calls and of two calls: each function carries theorems in its contract, and does nothing.
+#![tactic(auto)]
+
 ghost use Rattle.run_laws.specs.Consequences.{BarredByTheLast, TestedInOrder, RoutesStayApart, RefusalsAlterNothing, ClosedAfterK, KGrownThenClosed, AnswersAreOne, RunsGoOn};
 
 // A wire is barred exactly if the last bar or unbar of its rank was a bar, and not one refused by 12.
