@@ -1,5 +1,5 @@
 ghost use Rattle.std.specs.Prelude.{◌≡◌};
-ghost use Rattle.routes.specs.Plans.{Blocked as Is-blocked};
+ghost use Rattle.routes.specs.Plans.{Blocked as IsBlocked};
 ghost use Rattle.rows.specs.Held.{circuit_of, bars_of};
 ghost use Rattle.runs.specs.Calls.{of_step, of_stepped};
 ghost use Rattle.runs.specs.declared.calls.Call.TheVariants.{Step};
@@ -31,7 +31,7 @@ fn next_path(memory: &mut [u32], wires: usize, kept: Kept) -> Option<(u32, u32)>
 fn advance(memory: &mut [u32], wires: usize, kept: &mut Kept) -> Stepped
     requires ready { Ready wires memory.old kept.old }
     requires opened { kept.old.state ≡ Open }
-    requires unblocked { Is-blocked (circuit_of memory.old wires) (bars_of memory.old wires) → ⊥ }
+    requires unblocked { IsBlocked (circuit_of memory.old wires) (bars_of memory.old wires) → ⊥ }
     ensures { Turned wires memory.old kept.old (bare Step (of_stepped result)) memory.new kept.new }
 {
     match next_path(memory, wires, *kept) {

@@ -12,7 +12,7 @@ use Rattle.routes.specs.Standing.{Apart}
 use Rattle.routes.specs.Plans.{ones, Smallest, Blocked}
 use Rattle.routes.proofs.Plans.{earliest_is_one, smallest_is_fewest, blocked_has_no_plan}
 use Rattle.runs.specs.Events.{Event, History, Given, room_of, refused_by_12, set_or_lifted, barred, Epoch, new_epoch, index, after_answer, epoch}
-use Rattle.runs.specs.Law.{is_open, is_blocked, faults, Steps, Obeyed, Answered, Answers, Is_at, RoutesStand, LawfulRun}
+use Rattle.runs.specs.Law.{is_open, is_blocked, faults, Steps, Obeyed, Answered, Answers, IsAt, RoutesStand, LawfulRun}
 use Rattle.run_laws.specs.Consequences.{of_rank, is_bar, BarredByTheLast, TestedInOrder, Since, Gave, RoutesStayApart, RefusalsAlterNothing, ClosedAfterK, KGrownThenClosed, AnswersAreOne}
 use Rattle.runs.proofs.Common.{bars_stay, both_ways, some≢none}
 use Rattle.run_laws.proofs.Numbers.{one_refusal}
@@ -67,16 +67,16 @@ stand_apart : (c : List Making) (bars : Wires) (s : State) (k : ℕ) (gs : List 
     × ((i ≡ j → ⊥) → (w : ℕ) → has w r ≡ true → has w q ≡ true → bars w ≡ true)
 stand_apart c bars state.Open k gs st i j r q m n = absurd (subst (λ gs. In (i, r) gs) st m)
 stand_apart c bars state.Closed k gs st i j r q m n =
-    let a : Is_at st.0 (i, r) = all_in (Is_at st.0) gs (i, r) st.4 m in
-    let b : Is_at st.0 (j, q) = all_in (Is_at st.0) gs (j, q) st.4 n in (
+    let a : IsAt st.0 (i, r) = all_in (IsAt st.0) gs (i, r) st.4 m in
+    let b : IsAt st.0 (j, q) = all_in (IsAt st.0) gs (j, q) st.4 n in (
       subst (Route c) a.1 (All-get_or (Route c) st.0 i [] a.0 st.1),
       λ e. absurd (true≢false (sym (ap is_blocked e))),
       λ e. sym a.1 ∙ ap (λ i. get_or st.0 i []) e ∙ b.1,
       λ d w p o. apart_at bars st.0 st.2 i j a.0 b.0 d w (subst (λ r. has w r ≡ true) (sym a.1) p) (subst (λ r. has w r ≡ true) (sym b.1) o),
     )
 stand_apart c bars state.Blocked k gs st i j r q m n =
-    let a : Is_at (st.0 ∷ []) (i, r) = all_in (Is_at (st.0 ∷ [])) gs (i, r) st.3 m in
-    let b : Is_at (st.0 ∷ []) (j, q) = all_in (Is_at (st.0 ∷ [])) gs (j, q) st.3 n in
+    let a : IsAt (st.0 ∷ []) (i, r) = all_in (IsAt (st.0 ∷ [])) gs (i, r) st.3 m in
+    let b : IsAt (st.0 ∷ []) (j, q) = all_in (IsAt (st.0 ∷ [])) gs (j, q) st.3 n in
     let same : st.0 ≡ r = sym (ap (λ i. get_or (st.0 ∷ []) i []) (first a.0)) ∙ a.1 in (
       subst (Route c) same st.1,
       λ e. subst (λ r. AllByRecursion (λ w. bars w ≡ true) r) same st.2,

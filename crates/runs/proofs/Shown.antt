@@ -15,7 +15,7 @@ use Rattle.routes.proofs.Cuts.{border_earliest}
 use Rattle.routes.proofs.Plans.{listed_earliest, border_is_the_earliest, blocked_has_no_plan}
 use Rattle.routes.proofs.Existence.{closed_bounds_standing}
 use Rattle.runs.specs.Events.{Event, set_or_lifted}
-use Rattle.runs.specs.Law.{is_open, offered, faults, Is_at}
+use Rattle.runs.specs.Law.{is_open, offered, faults, IsAt}
 use Rattle.runs.specs.Told.{Told, counted, opened, StandApart, StepTold, ObeysTold, DidTold, DoesTold}
 use Rattle.runs.specs.Machine.{Stage, still_open, closed_by, blocked_by, tells, Standing, Begun, StepsTo, Borders, RowsAt, Obeys, Did, Does}
 use Rattle.runs.specs.Shown.{Seen, FlowsDoWhatIsTold}
@@ -133,7 +133,7 @@ module _ (c : List Making) (ordered : Ordered c) where
   plan_seen bars x (blocked_by r) rs plan flow h b = absurd b
 
   row_seen : (bars : Wires) (x : Flow) (z : Stage) (rs : List (List ℕ)) (i : ℕ) (r : List ℕ) → Seen c bars x z rs → leb (offered (tells z) (value c x)) i ≡ false
-      → RowsAt x z i r → Is_at rs (i, r)
+      → RowsAt x z i r → IsAt rs (i, r)
   row_seen bars x still_open rs i r h l d = absurd d
   row_seen bars x (closed_by mark) rs i r h l d =
       let k : i < length rs = omega (arith, leb-false (value c x) i l, h.1) in
@@ -142,7 +142,7 @@ module _ (c : List Making) (ordered : Ordered c) where
       plus_zero : (n : ℕ) → 0 + n ≡ n
       plus_zero n = omega arith
   row_seen bars x (blocked_by row) rs i r h l d =
-      subst (λ rs. Is_at rs (i, r)) (sym h.0) (omega (arith, leb-false 1 i l), at_first i (leb-false 1 i l) ∙ sym d)
+      subst (λ rs. IsAt rs (i, r)) (sym h.0) (omega (arith, leb-false 1 i l), at_first i (leb-false 1 i l) ∙ sym d)
     where
       at_first : (i : ℕ) → i < 1 → get_or (row ∷ []) i [] ≡ row
       at_first zero l = refl

@@ -9,7 +9,7 @@ use Rattle.routes.specs.Standing.{Apart}
 use Rattle.routes.specs.Plans.{ones, Smallest, EarliestSmallest, Blocked}
 use Rattle.routes.proofs.Existence.{earliest_exists_unless_blocked, routes_apart_up_to_size}
 use Rattle.runs.specs.Events.{Event, History, Given, refused_by_12, set_or_lifted, barred, index, after_answer, epoch}
-use Rattle.runs.specs.Law.{is_open, offered, faults, Steps, Plans, Obeyed, RefusedBy, Answered, Answers, Is_at, RoutesStand, RoutesAt, LawfulRun}
+use Rattle.runs.specs.Law.{is_open, offered, faults, Steps, Plans, Obeyed, RefusedBy, Answered, Answers, IsAt, RoutesStand, RoutesAt, LawfulRun}
 use Rattle.runs.specs.Told.{Told, counted, opened, StandApart, StepTold, ObeysTold, DidTold, DoesTold, RunTold, new_told, then_told, ToldRunsAreLawful}
 use Rattle.runs.proofs.Common.{read_again, some≢none, passed, bars_stay}
 use Rattle.runs.specs.declared.calls.Call.{Call}
@@ -23,8 +23,8 @@ use Rattle.runs.specs.declared.calls.State.TheVariants as state
 abbrev pub Held : List Making → Wires → State → List (List ℕ) → List Given → Type 0
 Held c bars state.Open rs gs = StandApart c bars rs × (0 < length rs → Blocked c bars → ⊥) × (gs ≡ [])
 Held c bars state.Closed rs gs =
-    StandApart c bars rs × ((qs : List (List ℕ)) → StandApart c bars qs → length qs ≤ length rs) × (Blocked c bars → ⊥) × AllByRecursion (Is_at rs) gs
-Held c bars state.Blocked rs gs = (r : List ℕ) × (rs ≡ r ∷ []) × Route c r × AllByRecursion (λ w. bars w ≡ true) r × AllByRecursion (Is_at (r ∷ [])) gs
+    StandApart c bars rs × ((qs : List (List ℕ)) → StandApart c bars qs → length qs ≤ length rs) × (Blocked c bars → ⊥) × AllByRecursion (IsAt rs) gs
+Held c bars state.Blocked rs gs = (r : List ℕ) × (rs ≡ r ∷ []) × Route c r × AllByRecursion (λ w. bars w ≡ true) r × AllByRecursion (IsAt (r ∷ [])) gs
 
 -- what the history tells is what stands
 pub record Holds (c : List Making) (h : History) (s : Told) : Type 0 where
@@ -168,7 +168,7 @@ module _ (c : List Making) (ordered : Ordered c) where
         bars_are = k.bars_are;
         state_is = refl;
         count_is = n;
-        held = (u.0, d.1, d.0, subst (λ gs. AllByRecursion (Is_at s.routes) gs) (sym u.2) tt);
+        held = (u.0, d.1, d.0, subst (λ gs. AllByRecursion (IsAt s.routes) gs) (sym u.2) tt);
       }
   stepped_next h s before answer.Blocked after t k o u n d =
       subst (λ t. Holds c (now call.Step before answer.Blocked after h) t) (sym d.3)
@@ -176,7 +176,7 @@ module _ (c : List Making) (ordered : Ordered c) where
         bars_are = k.bars_are;
         state_is = refl;
         count_is = n ∙ none;
-        held = (d.0, refl, d.1, d.2, subst (λ gs. AllByRecursion (Is_at (d.0 ∷ [])) gs) (sym u.2) tt);
+        held = (d.0, refl, d.1, d.2, subst (λ gs. AllByRecursion (IsAt (d.0 ∷ [])) gs) (sym u.2) tt);
       }
     where
       none : length s.routes ≡ 0
@@ -186,10 +186,10 @@ module _ (c : List Making) (ordered : Ordered c) where
   stepped_next h s before (answer.Refused r) after t k o u n d = absurd d
 
   given_more : (bars : Wires) (z : State) (rs : List (List ℕ)) (gs : List Given) (i : ℕ) (r : List ℕ) → Held c bars z rs gs → is_open z ≡ false
-      → Is_at rs (i, r) → Held c bars z rs ((i, r) ∷ gs)
+      → IsAt rs (i, r) → Held c bars z rs ((i, r) ∷ gs)
   given_more bars state.Open rs gs i r h l d = absurd (true≢false l)
   given_more bars state.Closed rs gs i r h l d = (h.0, h.1, h.2, (d, h.3))
-  given_more bars state.Blocked rs gs i r h l d = (h.0, h.1, h.2, h.3, (subst (λ rs. Is_at rs (i, r)) h.1 d, h.4))
+  given_more bars state.Blocked rs gs i r h l d = (h.0, h.1, h.2, h.3, (subst (λ rs. IsAt rs (i, r)) h.1 d, h.4))
 
   obeyed_next : (h : History) (s : Told) (a : Call) (before : List ℕ) (b : Answer) (after : List ℕ) (t : Told) → Holds c h s
       → first_fault (faults c s.bars s.state (counted s.state s.routes) a) ≡ None → ObeysTold c s a before b after t

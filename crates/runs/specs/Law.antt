@@ -103,17 +103,17 @@ abbrev pub Answers : List Making → Wires → State → ℕ → Event → Type 
 Answers c bars s k e = Answered (first_fault (faults c bars s k e.call)) c bars k e
 
 -- the route that was given is the one of its index
-abbrev pub Is_at : List (List ℕ) → Given → Type 0
-Is_at rs g = (g.0 < length rs) × (slice_index_or rs g.0 [] ≡ g.1)
+abbrev pub IsAt : List (List ℕ) → Given → Type 0
+IsAt rs g = (g.0 < length rs) × (slice_index_or rs g.0 [] ≡ g.1)
 
 -- when closed, k routes of which no two share an unbarred wire are at hand, and whatever was given under index i is the i-th of them;
 -- when blocked, one route of barred wires is, and whatever was given is that one
 abbrev pub RoutesStand : List Making → Wires → State → ℕ → List Given → Type 0
 RoutesStand c bars state.Open k gs = gs ≡ []
 RoutesStand c bars state.Closed k gs =
-    (rs : List (List ℕ)) × AllByRecursion (Route c) rs × Apart bars rs × (length rs ≡ k) × AllByRecursion (Is_at rs) gs
+    (rs : List (List ℕ)) × AllByRecursion (Route c) rs × Apart bars rs × (length rs ≡ k) × AllByRecursion (IsAt rs) gs
 RoutesStand c bars state.Blocked k gs =
-    (r : List ℕ) × Route c r × AllByRecursion (λ w. bars w ≡ true) r × AllByRecursion (Is_at (r ∷ [])) gs
+    (r : List ℕ) × Route c r × AllByRecursion (λ w. bars w ≡ true) r × AllByRecursion (IsAt (r ∷ [])) gs
 
 -- that at the end of a history
 abbrev pub RoutesAt : List Making → History → Type 0

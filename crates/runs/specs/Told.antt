@@ -7,7 +7,7 @@ use Rattle.routes.specs.Routes.{Ordered, Wires, Route}
 use Rattle.routes.specs.Standing.{Apart}
 use Rattle.routes.specs.Plans.{EarliestSmallest, Blocked}
 use Rattle.runs.specs.Events.{Event, History, room_of, set_or_lifted}
-use Rattle.runs.specs.Law.{faults, Wrote, RefusedBy, Is_at, LawfulRun}
+use Rattle.runs.specs.Law.{faults, Wrote, RefusedBy, IsAt, LawfulRun}
 use Rattle.runs.specs.declared.calls.Call.{Call}
 use Rattle.runs.specs.declared.calls.Answer.{Answer}
 use Rattle.runs.specs.declared.calls.State.{State}
@@ -60,7 +60,7 @@ ObeysTold c s call.Step before a after t = StepTold c s a t × (after ≡ before
 ObeysTold c s (call.Plan n) before a after t =
     (plan : List ℕ) × (a ≡ answer.Planned (length plan)) × Wrote plan before after × EarliestSmallest c s.bars plan × (t ≡ s)
 ObeysTold c s (call.Route i n) before a after t =
-    (r : List ℕ) × (a ≡ answer.Routed (length r)) × Wrote r before after × Is_at s.routes (i, r) × (t ≡ s)
+    (r : List ℕ) × (a ≡ answer.Routed (length r)) × Wrote r before after × IsAt s.routes (i, r) × (t ≡ s)
 
 -- a call, by the first fault that is found: one that is refused leaves all as it was
 abbrev pub DidTold : Option ℕ → List Making → Told → Event → Told → Type 0
