@@ -3,7 +3,6 @@
 #![tactic(auto)]
 
 use anyhow::anyhow;
-use circuits::answer::Levels;
 use circuits::circuit::Circuit;
 use circuits::growth::Exponential;
 use circuits::levels::level_run;
@@ -28,7 +27,7 @@ fn scattered(rank: u32, salt: u32) -> u32 {
         % rank.max(1)
 }
 
-// One wire in four a product, the others sums, copies and inversions.
+// One wire in four a product, the others sums, copies and inversions: the rank is a number to scatter them by, and no kind.
 fn making_at(rank: u32) -> Making {
     if rank < INPUTS {
         return Making::Input;
@@ -44,33 +43,21 @@ fn making_at(rank: u32) -> Making {
 }
 
 fn entries(heap: Global) -> Result<Vec<Entry>, AllocError> {
-    let mut list = Vec::new(heap);
-    for rank in 0..WIRES {
-        list.push(Entry {
+    (0..WIRES)
+        .map(|rank| Entry {
             making: making_at(rank),
             name: rank,
-        })?;
-    }
-    Ok(list)
+        })
+        .collect(heap)
 }
 
 fn numbers(heap: Global, from: u32, to: u32) -> Result<Vec<u32>, AllocError> {
-    let mut list = Vec::new(heap);
-    for number in from..to {
-        list.push(number)?;
-    }
-    Ok(list)
+    (from..to).collect(heap)
 }
 
 // Every product refreshed, so that the run goes through the whole table.
 fn products(heap: Global) -> Result<Vec<u32>, AllocError> {
-    let mut list = Vec::new(heap);
-    for rank in INPUTS..WIRES {
-        if rank % 4 == 0 {
-            list.push(rank)?;
-        }
-    }
-    Ok(list)
+    (INPUTS..WIRES).filter(|rank| rank % 4 == 0).collect(heap)
 }
 
 fn time_runs<C: Circuit>(
@@ -82,13 +69,10 @@ fn time_runs<C: Circuit>(
 ) -> anyhow::Result<()> {
     let wires = circuit.wires();
     let mut memory = vec![in rt.alloc(); 0u32; wires as usize]?;
-    let mut clean = 0u32;
     let start = Instant::now(rt)?;
-    for _ in 0..runs {
-        if let Ok(Levels::Clean) = level_run(circuit, plan, &Exponential, &mut memory) {
-            clean = clean.saturating_add(1);
-        }
-    }
+    let clean = (0..runs)
+        .filter(|_| level_run(circuit, plan, &Exponential, &mut memory) == Ok(None))
+        .count();
     let nanos = start.elapsed(rt)?.as_nanos().max(1);
     let speed = u128::from(wires) * u128::from(runs) * 1_000_000_000 / nanos;
     println!(rt; "{title}: {wires} wires, {clean} clean runs of {runs}, {speed} wires per second")?;

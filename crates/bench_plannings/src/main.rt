@@ -2,55 +2,52 @@
 //   bench_plannings time < CIRCUIT
 #![tactic(auto)]
 
+use circuits::answer::Refusal;
 use circuits::circuit::Circuit;
-use circuits::making::{Entry, Making};
 use plannings::run_calls;
-use reading::LONGEST_TEXT;
-use reading::table::read_table;
-use runs::calls::{Answer, Call};
+use reading::table::{circuit_or_lone, read_table};
+use reading::{CLEARED, LONGEST_TEXT};
+use runs::calls::{Answer, Call, Stepped};
 use std::env;
 use std::io::Read;
 use std::time::Instant;
 use tokens::header::MOST_WIRES;
 
-fn count_grown(answers: &[Answer]) -> usize {
-    let mut grown = 0usize;
-    for answer in answers {
-        if let Answer::Grown = answer {
-            grown = grown.saturating_add(1);
-        }
-    }
-    grown
+// What a planning asks for.
+const NUMBERS_PER_WIRE: usize = 24;
+
+fn count_grown(answers: &[Result<Answer, Refusal>]) -> usize {
+    answers
+        .iter()
+        .filter(|answer| **answer == Ok(Answer::Stepped(Stepped::Grown)))
+        .count()
 }
 
 fn time(rt: &HostRuntime) -> anyhow::Result<()> {
     let heap = rt.alloc();
     let mut text = Vec::new(heap);
     rt.stdin().read_to_end(&mut text)?;
-    let blank = Entry {
-        making: Making::Constant(false),
-        name: 0,
-    };
     let most = MOST_WIRES as usize;
-    let mut table = Vec::from_elem(heap, blank, most)?;
+    let mut table = Vec::from_elem(heap, CLEARED, most)?;
     let mut ranks = Vec::from_elem(heap, 0u32, most)?;
     let start = Instant::now(rt)?;
-    let reading = read_table(
+    let answer = read_table(
         text.as_slice(),
         LONGEST_TEXT,
         table.as_mut_slice(),
         ranks.as_mut_slice(),
     );
     let read = start.elapsed(rt)?.as_micros();
-    let wires = reading.circuit.wires() as usize;
+    let circuit = circuit_or_lone(answer);
+    let wires = circuit.wires() as usize;
     let mut calls = Vec::from_elem(heap, Call::Step, wires.saturating_add(1))?;
     calls.push(Call::Plan(wires))?;
-    let mut memory = Vec::from_elem(heap, 0u32, wires.saturating_mul(24))?;
+    let mut memory = Vec::from_elem(heap, 0u32, wires.saturating_mul(NUMBERS_PER_WIRE))?;
     let mut room = Vec::from_elem(heap, 0u32, wires)?;
-    let mut answers = Vec::from_elem(heap, Answer::Done, calls.len())?;
+    let mut answers = Vec::from_elem(heap, Ok(Answer::Done), calls.len())?;
     let start = Instant::now(rt)?;
     let done = run_calls(
-        &reading.circuit,
+        &circuit,
         memory.as_mut_slice(),
         calls.as_slice(),
         room.as_mut_slice(),

@@ -4,13 +4,12 @@
 ghost use Rattle.std.specs.Prelude.{◌≡◌};
 ghost use Rattle.bristol_c.specs.Reports.{reported, Told};
 
-use circuits::making::{Entry, Making};
-use reading::{LONGEST_TEXT, read_circuit};
+use reading::{CLEARED, LONGEST_TEXT, read_circuit};
 use std::alloc::Global;
 use tokens::fault::Fault;
 use tokens::header::Header;
 
-// The counts of a circuit, with the refusal 0; or the number of a refusal, with its line and byte.
+// The counts of a circuit, with the refusal 0; or the number of a refusal, with its line and byte: numbers, for a caller in C.
 #[repr(C)]
 #[derive(Clone, Copy)]
 pub struct Report {
@@ -22,26 +21,28 @@ pub struct Report {
     pub byte: usize,
 }
 
-fn report_of(answer: Result<Header, Fault>) -> Report
-    ensures { result ≡ reported answer }
-{
-    match answer {
-        Ok(header) => Report {
-            refusal: 0,
-            wires: header.wires,
-            inputs: header.inputs,
-            outputs: header.outputs,
-            line: 0,
-            byte: 0,
-        },
-        Err(fault) => Report {
-            refusal: u32::from(fault.number()),
-            wires: 0,
-            inputs: 0,
-            outputs: 0,
-            line: fault.line,
-            byte: fault.byte,
-        },
+impl From<Result<Header, Fault>> for Report {
+    ghost from_gives = { λ answer report. report ≡ reported answer };
+
+    fn from(answer: Result<Header, Fault>) -> Report {
+        match answer {
+            Ok(header) => Report {
+                refusal: 0,
+                wires: header.wires,
+                inputs: header.inputs,
+                outputs: header.outputs,
+                line: 0,
+                byte: 0,
+            },
+            Err(fault) => Report {
+                refusal: u32::from(fault.number()),
+                wires: 0,
+                inputs: 0,
+                outputs: 0,
+                line: fault.line,
+                byte: fault.byte,
+            },
+        }
     }
 }
 
@@ -55,14 +56,9 @@ pub extern "C" fn bristol_read(
 ) -> bool
     ensures { Told result text.now ranks.old ranks.new report.old report.new }
 {
-    let blank = Entry {
-        making: Making::Constant(false),
-        name: 0,
+    let Ok(mut table) = Vec::from_elem(heap, CLEARED, ranks.len()) else {
+        return false;
     };
-    let mut table = match Vec::from_elem(heap, blank, ranks.len()) {
-        Ok(table) => table,
-        Err(_) => return false,
-    };
-    *report = report_of(read_circuit(text, LONGEST_TEXT, table.as_mut_slice(), ranks));
+    *report = Report::from(read_circuit(text, LONGEST_TEXT, table.as_mut_slice(), ranks));
     true
 }

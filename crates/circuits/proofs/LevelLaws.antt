@@ -1,21 +1,19 @@
 -- The laws of levels.
-use Rattle.std.proofs.Common.{◌≡◌, ℕ, zero, suc, ◌<◌, ◌≤◌, true, false, List, [], length, get_or, sym, refl, ap, ◌∙◌, subst, inl, inr, arith, ext_get_or}
+use Rattle.std.proofs.Common.{◌≡◌, ℕ, zero, suc, ◌<◌, ◌≤◌, true, false, Some, None, Option, List, [], length, get_or, sym, refl, ap, ◌∙◌, subst, inl, inr, arith, ext_get_or}
 use Rattle.std.proofs.lemmas.Option.{slice_get-get_or}
 use Rattle.std.proofs.lemmas.Bool.{cases_Bool, cases_lt, cond-true, cond_both}
-use Rattle.circuits.specs.Answers.{overrun_of}
 use Rattle.circuits.specs.Circuits.{Meaning, Lawful, width, Feeds}
 use Rattle.circuits.specs.Growths.{Tables, Grows, Bounded, Level, linear}
 use Rattle.circuits.specs.Levels.{Rules, rules, own, own_at, has, outgoing, run_from, produced, produced_of, produced_at, IsClean, Levelled, Told, Within, AllRefreshed, Fresh, FreshProductsFit, LevelLaws}
-use Rattle.circuits.specs.declared.answer.Levels.{Levels}
-use Rattle.circuits.specs.declared.answer.Levels.TheVariants.{Clean, Overrun}
+use Rattle.circuits.specs.declared.answer.Overrun.{Overrun}
 use Rattle.circuits.specs.declared.making.Making.{Making}
 use Rattle.circuits.specs.declared.making.Making.TheVariants.{Input, Constant, Copy, Inversion, Sum, Product}
 use Rattle.circuits.proofs.LevelsMean.{right, own_agrees}
 
 -- an answer tells an overrun or is clean
-clean_of : (m : Meaning) (r : Rules) (out : List ℕ) (a : Levels) → Told m r out (overrun_of a) → (length out < width m → own_at m r out (length out) ≤ r.limit) → a ≡ Clean
-clean_of m r out Clean told low = refl
-clean_of m r out (Overrun p) told low = absurd (omega (arith, low told.1.0, told.1.1.0, told.1.1.1))
+clean_of : (m : Meaning) (r : Rules) (out : List ℕ) (a : Option Overrun) → Told m r out a → (length out < width m → own_at m r out (length out) ≤ r.limit) → a ≡ None
+clean_of m r out None told low = refl
+clean_of m r out (Some o) told low = absurd (omega (arith, low told.1.0, told.1.1.0, told.1.1.1))
 
 module _ (m : Meaning) (laws : Lawful m) (r : Rules) (plan : List ℕ) where
   ran : List ℕ
@@ -25,7 +23,7 @@ module _ (m : Meaning) (laws : Lawful m) (r : Rules) (plan : List ℕ) where
   unfolding ran
   within_from_clean e =
       let p = right m laws r plan in
-      record { out = ran; all = subst (λ a. Told m r ran (overrun_of a)) e p.1; levelled = p.0 }
+      record { out = ran; all = subst (λ a. Told m r ran a) e p.1; levelled = p.0 }
 
   -- two lists of outgoing levels agree as far as both go
   agree : (xs ys : List ℕ) → Levelled m r plan xs → Levelled m r plan ys → (n : ℕ) → n ≤ length xs → n ≤ length ys → (k : ℕ) → k < n → get_or xs k 0 ≡ get_or ys k 0

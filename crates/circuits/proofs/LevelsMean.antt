@@ -2,7 +2,6 @@
 use Rattle.std.proofs.Common.{◌≡◌, ℕ, suc, ◌+◌, ◌-◌, ◌<◌, ◌≤◌, ltb, List, [], ◌∷◌, ◌++◌, length, get_or, drop, sym, refl, ap, ◌∙◌, subst, inl, inr, add-zero, arith, below_more}
 use Rattle.std.proofs.lemmas.List.{length-drop, length_push, get_or-drop, get_or_append_left, get_or_push, drop-drop}
 use Rattle.std.proofs.lemmas.Bool.{cases_lt, cond-true, cond-false, lt-ltb, le-ltb}
-use Rattle.circuits.specs.Answers.{overrun_of}
 use Rattle.circuits.specs.Circuits.{Meaning, Lawful, width, Feeds}
 use Rattle.circuits.specs.Growths.{Tables}
 use Rattle.circuits.specs.Levels.{Rules, own, own_at, outgoing, Outcome, run_from, Levelled, Told}
@@ -20,7 +19,7 @@ own_agrees t xs ys k (Product a b) f same = ap (λ x. t.product x (get_or xs b 0
 
 module _ (m : Meaning) (laws : Lawful m) (r : Rules) (plan : List ℕ) where
   Right : Outcome → Type 0
-  Right o = Levelled m r plan o.levels × Told m r o.levels (overrun_of o.answer)
+  Right o = Levelled m r plan o.levels × Told m r o.levels o.answer
 
   same_own : (out more : List ℕ) (k : ℕ) → k ≤ length out → k < width m → own_at m r (out ++ more) k ≡ own_at m r out k
   same_own out more k h w =
@@ -62,6 +61,6 @@ module _ (m : Meaning) (laws : Lawful m) (r : Rules) (plan : List ℕ) where
       (right_from xs (out ++ (v ∷ [])) (ap (λ i. drop i m.makings) (length_push out v) ∙ rest) (subst (Levelled m r plan) same (levelled_more out is h (omega (arith, level))))) in
       elim (cases_lt r.limit (own r.growth out x)) [ inl p ↦ passed p | inr p ↦ next p ]
 
-  pub right : Levelled m r plan (run_from r plan [] m.makings).levels × Told m r (run_from r plan [] m.makings).levels (overrun_of (run_from r plan [] m.makings).answer)
+  pub right : Levelled m r plan (run_from r plan [] m.makings).levels × Told m r (run_from r plan [] m.makings).levels (run_from r plan [] m.makings).answer
   unfolding Right
   right = right_from m.makings [] refl (record { few = omega arith; low = λ k h. absurd (omega arith); goes = λ k h. absurd (omega arith) })

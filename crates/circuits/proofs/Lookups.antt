@@ -1,10 +1,11 @@
 -- Look-ups in a list that is made from a function of the index.
-use Rattle.std.proofs.Common.{◌≡◌, ℕ, zero, suc, ◌+◌, ◌<◌, ◌≤◌, List, [], ◌∷◌, map, length, get_or, Some, None, sym, refl, ap, ◌∙◌, inl, inr, add-zero, zero-add, arith}
+use Rattle.std.proofs.Common.{◌≡◌, ℕ, zero, suc, ◌+◌, ◌<◌, ◌≤◌, List, [], ◌∷◌, map, length, nat_lt, get_or, Bor, Some, None, Option, sym, refl, ap, ◌∙◌, inl, inr, add-zero, zero-add, arith}
+use Rattle.std.specs.Bool.{then_some}
+use Rattle.std.specs.Option.{is_some, IfSome, option_copied}
 use Rattle.std.specs.List.{slice_get, range_with_len}
 use Rattle.std.proofs.lemmas.List.FromFn.{length-map-range_with_len, get_or-map-range_with_len, length-range_with_len, get_or-range_with_len}
-use Rattle.std.proofs.lemmas.List.{length-map, get_or-map}
-use Rattle.std.proofs.lemmas.Option.{slice_get-get_or, slice_get_past}
-use Rattle.std.proofs.lemmas.Bool.{cases_eq, cases_lt, eq-eqb, ne_eqb}
+use Rattle.std.proofs.lemmas.Option.{slice_get-get_or, slice_get_past, slice_get_read}
+use Rattle.std.proofs.lemmas.Bool.{cases_eq, cases_lt, eq-eqb, ne_eqb, lt-ltb, le-ltb, ltb-true, ltb-false}
 use Rattle.circuits.specs.Circuits.{place_from, place}
 
 pub nth_counted : {X : Type 0} (f : ℕ → X) (n k : ℕ) → k < n → slice_get (map f (range_with_len 0 n)) k ≡ Some (f k)
@@ -23,6 +24,16 @@ nth_counting n k h =
 pub nth_counting_past : (n k : ℕ) → n ≤ k → slice_get (range_with_len 0 n) k ≡ None
 nth_counting_past n k h = slice_get_past (range_with_len 0 n) k (omega (arith, length-range_with_len 0 n))
 
+-- `get(k).copied()`
+pub copied_get : (o : Option (Bor ℕ)) (xs : List ℕ) (k : ℕ) → is_some o ≡ nat_lt k (length xs) → IfSome o (λ x. x.now ≡ get_or xs k x.now) → option_copied o ≡ slice_get xs k
+copied_get None xs k e h = sym (slice_get_past xs k (ltb-false k (length xs) (sym e)))
+copied_get (Some x) xs k e h = sym (slice_get_read xs (length xs) k x.now refl (ltb-true k (length xs) (sym e)) h)
+
+-- a list that counts from 0 has k at k, if it is so long
+pub counted_get : (n k : ℕ) → then_some (nat_lt k n) k ≡ slice_get (range_with_len 0 n) k
+counted_get n k =
+    elim (cases_lt k n) [ inl h ↦ rw (lt-ltb k n h) (sym (nth_counting n k h)) | inr l ↦ rw (le-ltb k n l) (sym (nth_counting_past n k l)) ]
+
 pub place_counting_from : (n i x : ℕ) → i ≤ x → x < i + n → place_from i x (range_with_len i n) ≡ Some x
 place_counting_from zero i x low high = absurd (omega arith)
 place_counting_from (suc n) i x low high =
@@ -34,12 +45,9 @@ place_counting_past (suc n) i x high =
     let d : i ≡ x → ⊥ = λ e. omega arith in
     rw (ne_eqb i x d) (place_counting_past n (i + 1) x (omega arith))
 
-pub nth_map : {X Y : Type 0} (f : X → Y) (xs : List X) (k : ℕ) (d : X) → k < length xs → slice_get (map f xs) k ≡ Some (f (get_or xs k d))
-nth_map f xs k d h =
-    slice_get-get_or (map f xs) k (f d) (omega (arith, length-map xs f)) ∙ ap Some (get_or-map f xs k d (f d) h)
-
-pub nth_map_past : {X Y : Type 0} (f : X → Y) (xs : List X) (k : ℕ) → length xs ≤ k → slice_get (map f xs) k ≡ None
-nth_map_past f xs k h = slice_get_past (map f xs) k (omega (arith, length-map xs f))
+pub counted_place : (n x : ℕ) → then_some (nat_lt x n) x ≡ place x (range_with_len 0 n)
+counted_place n x =
+    elim (cases_lt x n) [ inl h ↦ rw (lt-ltb x n h) (sym (place_counting_from n 0 x (omega arith) (omega arith))) | inr l ↦ rw (le-ltb x n l) (sym (place_counting_past n 0 x (omega arith))) ]
 
 -- the first place of x
 place_first : (ys : List ℕ) (i j x : ℕ) → j < length ys → get_or ys j 0 ≡ x → ((k : ℕ) → k < j → get_or ys k 0 ≡ x → ⊥) → place_from i x ys ≡ Some (i + j)
@@ -68,6 +76,3 @@ nth_within xs k d x h e = let p = slice_get-get_or xs k d h in cc
 
 pub nth_absent : {X : Type 0} (xs : List X) (k : ℕ) (d : X) → k < length xs → slice_get xs k ≡ None → ⊥
 nth_absent {X} xs k d h e = let p = slice_get-get_or xs k d h in let z : ◌≡◌ {A = ℕ} 0 1 = cc in omega arith
-
-pub nth_below : {X : Type 0} (xs : List X) (k : ℕ) (x : X) → slice_get xs k ≡ Some x → k < length xs
-nth_below xs k x e = elim (cases_lt k (length xs)) [ inl h ↦ h | inr l ↦ let p = slice_get_past xs k l in let z : ◌≡◌ {A = ℕ} 0 1 = cc in absurd (omega arith) ]

@@ -1,9 +1,8 @@
--- Plans: the loop that tests one, and what a plan that fits has.
-use Rattle.std.proofs.Common.{◌≡◌, ℕ, ◌+◌, ◌<◌, ◌≤◌, true, false, ◌&&◌, eqb, leb, List, [], ◌∷◌, length, get_or, drop, sym, refl, ap, ◌∙◌, inl, inr, arith}
-use Rattle.std.proofs.lemmas.List.{drop_more, drop_all}
+-- Plans: what a plan that fits has, and what makes one fit.
+use Rattle.std.proofs.Common.{◌≡◌, ℕ, zero, suc, ◌+◌, ◌<◌, ◌≤◌, Bool, true, false, ◌&&◌, eqb, leb, nat_lt, List, [], ◌∷◌, length, get_or, sym, refl, ap, ◌∙◌, subst, inl, inr, arith}
+use Rattle.std.specs.List.{IsAllAdjacentAnswer}
 use Rattle.std.proofs.lemmas.Option.{slice_get_past}
-use Rattle.std.proofs.lemmas.Bool.{cases_lt, both_ways, and_parts, and_from, leb-true, le-leb, ne_eqb, or_from}
-use Rattle.circuits.specs.Circuits.{Meaning, Lawful}
+use Rattle.std.proofs.lemmas.Bool.{MatchBool-at_true, MatchBool-at_false, ltb-true, ltb-false, cases_Bool, cases_lt, both_ways, and_parts, and_from, leb-true, le-leb, ne_eqb, or_from}
 use Rattle.circuits.specs.Levels.{produced_of, produced_at, plan_fits, has}
 use Rattle.circuits.specs.declared.making.Making.{Making}
 
@@ -11,23 +10,52 @@ pub produced_below : (ms : List Making) (k : ℕ) → produced_at ms k ≡ true 
 produced_below ms k e =
     elim (cases_lt k (length ms)) [ inl h ↦ h | inr l ↦ absurd (both_ways (produced_at ms k) (ap produced_of (slice_get_past ms k l)) e) ]
 
-module _ (ms : List Making) (low : ℕ) (plan : List ℕ) (i : ℕ) (inv : plan_fits ms low (drop i plan) ≡ plan_fits ms 0 plan) where
-  step : i < length plan → ((leb low (get_or plan i 0) && produced_at ms (get_or plan i 0)) && plan_fits ms (get_or plan i 0 + 1) (drop (i + 1) plan)) ≡ plan_fits ms 0 plan
-  step h = sym (ap (plan_fits ms low) (drop_more plan i 0 h)) ∙ inv
+-- strictly ascending ranks of produced wires make a plan that fits
+fits_from : (ms : List Making) (low : ℕ) (xs : List ℕ) → (0 < length xs → low ≤ get_or xs 0 0) → ((k : ℕ) → k + 1 < length xs → get_or xs k 0 < get_or xs (k + 1) 0) → ((k : ℕ) → k < length xs → produced_at ms (get_or xs k 0) ≡ true) → plan_fits ms low xs ≡ true
+fits_from ms low [] first rises made = refl
+fits_from ms low (x ∷ xs) first rises made =
+    and_from (leb low x && produced_at ms x) (plan_fits ms (x + 1) xs)
+    (and_from (leb low x) (produced_at ms x) (le-leb low x (first (omega arith))) (made 0 (omega arith)))
+    (fits_from ms (x + 1) xs (λ h. omega (arith, rises 0 (omega arith))) (λ k h. let s : suc k + 1 ≡ suc (k + 1) = omega arith in subst (λ i. get_or xs k 0 < get_or (x ∷ xs) i 0) s (rises (suc k) (omega arith))) (λ k h. made (suc k) (omega arith)))
 
-  pub plan_stop : i < length plan → (leb low (get_or plan i 0) && produced_at ms (get_or plan i 0)) ≡ false → false ≡ plan_fits ms 0 plan
-  plan_stop h e = ap (λ b. b && plan_fits ms (get_or plan i 0 + 1) (drop (i + 1) plan)) (sym e) ∙ step h
+fits_above : (ms : List Making) (low : ℕ) (xs : List ℕ) (k : ℕ) → plan_fits ms low xs ≡ true → k < length xs → (low ≤ get_or xs k 0) × (produced_at ms (get_or xs k 0) ≡ true)
+fits_above ms low [] k e h = absurd (omega arith)
+fits_above ms low (x ∷ xs) zero e h =
+    let p = and_parts (leb low x) (produced_at ms x) (and_parts (leb low x && produced_at ms x) (plan_fits ms (x + 1) xs) e).0 in
+    (leb-true low x p.0, p.1)
+fits_above ms low (x ∷ xs) (suc k) e h =
+    let p = and_parts (leb low x && produced_at ms x) (plan_fits ms (x + 1) xs) e in
+    let l = leb-true low x (and_parts (leb low x) (produced_at ms x) p.0).0 in
+    let r = fits_above ms (x + 1) xs k p.1 (omega arith) in
+    (omega (arith, l, r.0), r.1)
 
-  pub plan_more : i < length plan → (leb low (get_or plan i 0) && produced_at ms (get_or plan i 0)) ≡ true → plan_fits ms (get_or plan i 0 + 1) (drop (i + 1) plan) ≡ plan_fits ms 0 plan
-  plan_more h e = ap (λ b. b && plan_fits ms (get_or plan i 0 + 1) (drop (i + 1) plan)) (sym e) ∙ step h
+fits_rising : (ms : List Making) (low : ℕ) (xs : List ℕ) (k : ℕ) → plan_fits ms low xs ≡ true → k + 1 < length xs → get_or xs k 0 < get_or xs (k + 1) 0
+fits_rising ms low [] k e h = absurd (omega arith)
+fits_rising ms low (x ∷ xs) zero e h =
+    let r = fits_above ms (x + 1) xs 0 (and_parts (leb low x && produced_at ms x) (plan_fits ms (x + 1) xs) e).1 (omega arith) in
+    omega (arith, r.0)
+fits_rising ms low (x ∷ xs) (suc k) e h =
+    let s : suc (k + 1) ≡ suc k + 1 = omega arith in
+    subst (λ i. get_or xs k 0 < get_or (x ∷ xs) i 0) s (fits_rising ms (x + 1) xs k (and_parts (leb low x && produced_at ms x) (plan_fits ms (x + 1) xs) e).1 (omega arith))
 
-  pub plan_all : length plan ≤ i → true ≡ plan_fits ms 0 plan
-  plan_all h = sym (ap (plan_fits ms low) (drop_all i plan h)) ∙ inv
+module _ (ms : List Making) (plan : List ℕ) where
+  -- what `is_sorted_by` answers of the ranks, where some do not ascend
+  pub plan_falls : (sorted : Bool) → sorted ≡ false → IsAllAdjacentAnswer (λ x y b. b ≡ nat_lt x y) plan sorted → sorted ≡ plan_fits ms 0 plan
+  plan_falls sorted off answer =
+      let f = MatchBool-at_false _ _ off answer in
+      let l : get_or plan (f.0 + 1) 0 ≤ get_or plan f.0 0 = ltb-false (get_or plan f.0 0) (get_or plan (f.0 + 1) 0) (sym (f.2 0)) in
+      elim (cases_Bool (plan_fits ms 0 plan)) [ inl e ↦ absurd (omega (arith, l, fits_rising ms 0 plan f.0 e f.1)) | inr e ↦ off ∙ sym e ]
 
-pub rank_most : (m : Meaning) → Lawful m → (low x : ℕ) → (leb low x && produced_at m.makings x) ≡ true → x + 1 ≤ 1048576
-rank_most m laws low x e =
-    let h = produced_below m.makings x (and_parts (leb low x) (produced_at m.makings x) e).1 in
-    omega (arith, h, laws.most)
+  -- what `all` answers of them, where they ascend
+  pub plan_is : (sorted r : Bool) → sorted ≡ true → IsAllAdjacentAnswer (λ x y b. b ≡ nat_lt x y) plan sorted
+      → (r ≡ true → (k : ℕ) → k < length plan → produced_at ms (get_or plan k 0) ≡ true)
+      → (r ≡ false → (k : ℕ) × (k < length plan) × (produced_at ms (get_or plan k 0) ≡ false)) → r ≡ plan_fits ms 0 plan
+  plan_is sorted true on answer passes fails =
+      let a = MatchBool-at_true _ _ on answer in
+      sym (fits_from ms 0 plan (λ h. omega arith) (λ k h. ltb-true (get_or plan k 0) (get_or plan (k + 1) 0) (sym (a k 0 h))) (passes refl))
+  plan_is sorted false on answer passes fails =
+      let n = fails refl in
+      elim (cases_Bool (plan_fits ms 0 plan)) [ inl e ↦ absurd (both_ways (produced_at ms (get_or plan n.0 0)) n.2 (fits_above ms 0 plan n.0 e n.1).1) | inr e ↦ sym e ]
 
 -- a rank below all of a plan is not in it
 pub has_below : (ms : List Making) (low k : ℕ) (xs : List ℕ) → plan_fits ms low xs ≡ true → k < low → has k xs ≡ false

@@ -1,10 +1,14 @@
 -- The test of a table passes exactly where the table is kept.
-use Rattle.std.proofs.Common.{◌≡◌, ℕ, suc, ◌+◌, ◌<◌, ◌≤◌, Bool, true, not, ◌&&◌, eqb, ltb, leb, List, [], ◌∷◌, length, get_or, sym, refl, ap, ◌∙◌, subst, inl, inr, add-zero, zero-add, arith}
+use Rattle.std.proofs.Common.{◌≡◌, ℕ, ◌<◌, ◌≤◌, true, not, ◌&&◌, eqb, ltb, leb, List, Some, length, get_or, sym, refl, ap, ◌∙◌, subst, inl, inr, arith}
 use Rattle.std.proofs.lemmas.List.{length-map, get_or-map}
+use Rattle.std.specs.List.{slice_get}
+use Rattle.std.proofs.lemmas.Option.{slice_get-get_or, slice_get_past}
 use Rattle.std.proofs.lemmas.Bool.{and_from, cond-true, cond-false, lt-ltb, le-ltb, le-leb, eq-eqb, cases_lt, not_from_false}
-use Rattle.circuits.specs.Circuits.{width, is_input, Feeds}
+use Rattle.circuits.specs.Circuits.{width, is_input, Feeds, place}
 use Rattle.circuits.specs.Tables.{Kept, names_of, tabled, feeds, placed, entry_fits, rank_fits, each, counts_fit, table_fits}
 use Rattle.circuits.specs.TableLaws.{counts, rank_at, table_lawful}
+use Rattle.circuits.proofs.Each.{each_of}
+use Rattle.circuits.proofs.Lookups.{place_is, place_none}
 use Rattle.circuits.specs.declared.making.Making.{Making}
 use Rattle.circuits.specs.declared.making.Making.TheVariants.{Input, Constant, Copy, Inversion, Sum, Product}
 use Rattle.circuits.specs.declared.making.Entry.{Entry}
@@ -19,11 +23,20 @@ kept_from_fits es rs i o e =
       ranks_right = λ n h. (rank_at es rs i o e n (omega (arith, many))).1;
     }
 
-each_of : {X : Type 0} (p : ℕ → X → Bool) (xs : List X) (k : ℕ) (d : X) → ((j : ℕ) → j < length xs → p (k + j) (get_or xs j d) ≡ true) → each p k xs ≡ true
-each_of p [] k d h = refl
-each_of p (x ∷ xs) k d h =
-    and_from (p k x) (each p (k + 1) xs) (subst (λ i. p i x ≡ true) (add-zero k) (h 0 (omega arith)))
-    (each_of p xs (k + 1) d (λ j l. let s : k + suc j ≡ k + 1 + j = omega arith in subst (λ i. p i (get_or xs j d) ≡ true) s (h (suc j) (omega arith))))
+-- the rank that is kept for a name is that of the wire with the name
+pub rank_found : (es : List Entry) (rs : List ℕ) (i o : ℕ) → table_fits es rs i o ≡ true → (n : ℕ) → slice_get rs n ≡ place n (names_of es)
+rank_found es rs i o fits n =
+    let size = (counts es rs i o fits).1.1.0 in
+    let wide = length-map es (λ (e : Entry). e.name) in
+    let also = length-map es (λ (e : Entry). e.making) in
+    let laws = table_lawful es rs i o fits in
+    let here : n < length rs → place n (names_of es) ≡ Some (get_or rs n 0) =
+    λ h. let at = rank_at es rs i o fits n (omega (arith, size)) in
+    place_is (names_of es) (get_or rs n 0) n (omega (arith, at.0, wide)) at.1 (λ k l e. let s = laws.names_apart k (get_or rs n 0) (omega (arith, at.0, also)) (omega (arith, at.0, also)) (e ∙ sym at.1) in omega (arith, s)) in
+    elim (cases_lt n (length rs)) [
+      | inl h ↦ slice_get-get_or rs n 0 h ∙ sym (here h)
+      | inr l ↦ slice_get_past rs n l ∙ sym (place_none (names_of es) n (λ k h e. omega (arith, laws.names_below k (omega (arith, also, wide)), also, size)))
+    ]
 
 feeds_from : (k : ℕ) (m : Making) → Feeds k m → feeds k m ≡ true
 feeds_from k Input f = refl
@@ -79,5 +92,5 @@ module _ (es : List Entry) (rs : List ℕ) (i o : ℕ) (kept : Kept es rs i o) w
       let d = and_from (leb 1 w) (leb w 1048576 && (eqb n w && (leb i w && leb o w))) (le-leb 1 w (omega (arith, laws.some, wide))) c in
       and_from (counts_fit w n i o) (each (entry_fits i rs) 0 es && each (rank_fits (names_of es)) 0 rs) d
       (and_from (each (entry_fits i rs) 0 es) (each (rank_fits (names_of es)) 0 rs)
-      (each_of (entry_fits i rs) es 0 blank (λ j h. subst (λ k. entry_fits i rs k (get_or es j blank) ≡ true) (sym (zero-add j)) (entry_kept j blank h)))
-      (each_of (rank_fits (names_of es)) rs 0 0 (λ j h. subst (λ k. rank_fits (names_of es) k (get_or rs j 0) ≡ true) (sym (zero-add j)) (rank_kept j h))))
+      (each_of (entry_fits i rs) es blank (λ j h. entry_kept j blank h))
+      (each_of (rank_fits (names_of es)) rs 0 rank_kept))

@@ -1,7 +1,5 @@
--- What each case of an answer stands for: a refusal for its number, an overrun for its rank and level.
+-- The number of each refusal, and the first of several tests that is met.
 use Rattle.std.specs.Prelude.{ℕ, Bool, cond, List, [], ◌∷◌, Some, None, Option}
-use Rattle.circuits.specs.declared.answer.Levels.{Levels}
-use Rattle.circuits.specs.declared.answer.Levels.TheVariants.{Clean, Overrun}
 use Rattle.circuits.specs.declared.answer.Refusal.{Refusal}
 use Rattle.circuits.specs.declared.answer.Refusal.TheVariants as refusal
 
@@ -26,11 +24,6 @@ number_of refusal.NotBarred = 16
 number_of refusal.NotOpen = 17
 number_of refusal.StillOpen = 18
 number_of refusal.PlanBlocked = 19
-
--- the rank and the level of an overrun; none where the levels are clean
-abbrev pub overrun_of : Levels → Option (ℕ × ℕ)
-overrun_of Clean = None
-overrun_of (Overrun p) = Some p
 
 -- of the tests of a call, in their order and each with the number that it refuses by, the number of the first that is met
 abbrev pub first_fault : List (Bool × ℕ) → Option ℕ

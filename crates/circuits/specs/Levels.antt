@@ -1,13 +1,12 @@
 -- The levels of the wires of a circuit under a plan.
 use Rattle.std.specs.Prelude.{◌≡◌, ℕ, ◌+◌, ◌<◌, ◌≤◌, Bool, true, false, cond, not, ◌&&◌, ◌||◌, ◌⊎◌, ◌↔◌, List, [], ◌∷◌, ◌++◌, length, drop, Some, None, Ok, Err, Option, Result, ◌==◌, nat_le, nat_lt, slice_index, slice_index_or}
 use Rattle.std.specs.List.{slice_get}
-use Rattle.circuits.specs.Answers.{number_of, overrun_of, first_fault}
+use Rattle.circuits.specs.Answers.{number_of, first_fault}
 use Rattle.circuits.specs.Circuits.{Meaning, Lawful, width}
 use Rattle.circuits.specs.Growths.{Tables, Grows, Bounded, linear}
 use Rattle.circuits.specs.declared.making.Making.{Making}
 use Rattle.circuits.specs.declared.making.Making.TheVariants.{Input, Constant, Copy, Inversion, Sum, Product}
-use Rattle.circuits.specs.declared.answer.Levels.{Levels}
-use Rattle.circuits.specs.declared.answer.Levels.TheVariants.{Clean, Overrun}
+use Rattle.circuits.specs.declared.answer.Overrun.{Overrun}
 use Rattle.circuits.specs.declared.answer.Refusal.{Refusal}
 use Rattle.circuits.specs.declared.answer.Refusal.TheVariants.{MemoryTooShort, BadRank}
 
@@ -38,15 +37,15 @@ abbrev pub outgoing : Rules → List ℕ → ℕ → ℕ → ℕ
 outgoing r plan k level = cond (has k plan) r.fresh level
 
 pub record Outcome : Type 0 where
-  pub answer : Levels
+  pub answer : Option Overrun
   pub levels : List ℕ
 
 -- the run over the wires that are left, after those whose outgoing levels are known
 abbrev pub run_from : Rules → List ℕ → List ℕ → List Making → Outcome
-run_from r plan out [] = record { answer = Clean; levels = out }
+run_from r plan out [] = record { answer = None; levels = out }
 run_from r plan out (m ∷ ms) =
     cond (nat_lt r.limit (own r.growth out m))
-    (record { answer = Overrun (length out, own r.growth out m); levels = out })
+    (record { answer = Some (record { rank = length out; level = own r.growth out m }); levels = out })
     (run_from r plan (out ++ (outgoing r plan (length out) (own r.growth out m) ∷ [])) ms)
 
 -- neither an input nor a constant
@@ -80,7 +79,7 @@ faults m plan memory = (nat_lt (length memory) (width m), 11) ∷ (not (plan_fit
 
 -- what a level run answers, and the memory that it leaves
 pub record Ending : Type 0 where
-  pub result : Result Levels Refusal
+  pub result : Result (Option Overrun) Refusal
   pub memory : List ℕ
 
 abbrev pub level_run : Meaning → Rules → List ℕ → List ℕ → Ending
@@ -91,7 +90,7 @@ level_run m r plan memory =
 
 -- a plan is clean if no own level passes the limit
 abbrev pub IsClean : List Making → Rules → List ℕ → Type 0
-IsClean c r plan = (run_from r plan [] c).answer ≡ Clean
+IsClean c r plan = (run_from r plan [] c).answer ≡ None
 
 -- the own level of the wire at rank k, where the outgoing levels are out
 abbrev pub own_at : Meaning → Rules → List ℕ → ℕ → ℕ
@@ -104,15 +103,15 @@ pub record Levelled (m : Meaning) (r : Rules) (plan out : List ℕ) : Type 0 whe
   pub goes : (k : ℕ) → k < length out → slice_index out k ≡ outgoing r plan k (own_at m r out k)
 
 -- what an answer says of the levels that are written: all are; or the next wire is the one that is told, and its own level, told too, passes the limit
-abbrev pub Told : Meaning → Rules → List ℕ → Option (ℕ × ℕ) → Type 0
+abbrev pub Told : Meaning → Rules → List ℕ → Option Overrun → Type 0
 Told m r out None = length out ≡ width m
-Told m r out (Some p) = (p.0 ≡ length out) × ((length out < width m) × ((p.1 ≡ own_at m r out (length out)) × (r.limit < p.1)))
+Told m r out (Some o) = (o.rank ≡ length out) × ((length out < width m) × ((o.level ≡ own_at m r out (length out)) × (r.limit < o.level)))
 
 -- a level run from the memory `before`, by what it answers and the memory that it leaves
-abbrev pub Ran : Meaning → Rules → List ℕ → List ℕ → Result Levels Refusal → List ℕ → Type 0
+abbrev pub Ran : Meaning → Rules → List ℕ → List ℕ → Result (Option Overrun) Refusal → List ℕ → Type 0
 Ran m r plan before (Ok a) after =
     (first_fault (faults m plan before) ≡ None)
-    × ((out : List ℕ) × (Levelled m r plan out × (Told m r out (overrun_of a) × (after ≡ over out before))))
+    × ((out : List ℕ) × (Levelled m r plan out × (Told m r out a × (after ≡ over out before))))
 Ran m r plan before (Err e) after = (first_fault (faults m plan before) ≡ Some (number_of e)) × (after ≡ before)
 
 -- every wire has its own level within the limit

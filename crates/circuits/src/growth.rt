@@ -2,43 +2,51 @@ ghost use Rattle.std.specs.Prelude.{◌≡◌, ℕ};
 ghost use Rattle.circuits.specs.Growths.{Tables, Grows, Level, Bounded, exponential, linear};
 ghost use Rattle.std.proofs.Common.{rules};
 
-// How levels grow: the level of the sum and of the product of two wires, by their levels from 1 to 64.
+// How levels grow: the level of the sum and of the product of two wires, by their levels from 1 to 64. Levels are plain numbers, as a run
+// writes them into lent memory, so that their bounds are clauses.
 pub trait Growth {
     ghost tables: { Self → Tables };
 
     // Every growth gives a sum the larger of the two.
     fn sum(&self, a: u32, b: u32) -> u32
-        requires { (Level a) × (Level b) }
+        requires first { Level a }
+        requires second { Level b }
         ensures { result ≡ (tables self.now).sum a b }
     {
         a.max(b)
     }
 
     fn product(&self, a: u32, b: u32) -> u32
-        requires { (Level a) × (Level b) }
+        requires first { Level a }
+        requires second { Level b }
         ensures { result ≡ (tables self.now).product a b };
 
     ghost grows: { (g : Self) → Grows (tables g) };
 }
 
-// A growth with the highest level that a wire may have, and the level after a refresh. No clause can name an associated
-// constant, so a ghost member stands for each, and a question ties the two.
+// A growth with the highest level that a wire may have, and the level after a refresh.
 pub trait Scheme: Growth {
     const LIMIT: u32;
 
     const FRESH: u32;
 
-    ghost most: { ℕ };
+    ghost LIMIT: { ℕ };
 
-    ghost renewed: { ℕ };
+    ghost FRESH: { ℕ };
 
     fn limit_level(&self) -> u32
-        ensures { result ≡ most };
+        ensures { result ≡ LIMIT }
+    {
+        Self::LIMIT
+    }
 
     fn fresh_level(&self) -> u32
-        ensures { result ≡ renewed };
+        ensures { result ≡ FRESH }
+    {
+        Self::FRESH
+    }
 
-    ghost bounded: { Bounded most renewed };
+    ghost bounded: { Bounded LIMIT FRESH };
 }
 
 // A product has the sum of the two levels; the limit is 2.
@@ -60,19 +68,11 @@ impl Scheme for Exponential {
 
     const FRESH: u32 = 1;
 
-    ghost most = { 2 };
+    ghost LIMIT = { 2 };
 
-    ghost renewed = { 1 };
+    ghost FRESH = { 1 };
 
     ghost bounded = { Prim.search rules };
-
-    fn limit_level(&self) -> u32 {
-        Self::LIMIT
-    }
-
-    fn fresh_level(&self) -> u32 {
-        Self::FRESH
-    }
 }
 
 // A product has the larger level and 1 more; the limit is 2.
@@ -94,22 +94,14 @@ impl Scheme for Linear {
 
     const FRESH: u32 = 1;
 
-    ghost most = { 2 };
+    ghost LIMIT = { 2 };
 
-    ghost renewed = { 1 };
+    ghost FRESH = { 1 };
 
     ghost bounded = { Prim.search rules };
-
-    fn limit_level(&self) -> u32 {
-        Self::LIMIT
-    }
-
-    fn fresh_level(&self) -> u32 {
-        Self::FRESH
-    }
 }
 
-// Grows as `Linear` does; the limit is 20, and a refresh leaves level 9.
+// Grows as `Linear` does; the limit is 20, and a refresh leaves level 9. A type of its own, since a scheme's two constants belong to its type.
 #[derive(Clone, Copy)]
 pub struct LinearTwenty;
 
@@ -128,17 +120,9 @@ impl Scheme for LinearTwenty {
 
     const FRESH: u32 = 9;
 
-    ghost most = { 20 };
+    ghost LIMIT = { 20 };
 
-    ghost renewed = { 9 };
+    ghost FRESH = { 9 };
 
     ghost bounded = { Prim.search rules };
-
-    fn limit_level(&self) -> u32 {
-        Self::LIMIT
-    }
-
-    fn fresh_level(&self) -> u32 {
-        Self::FRESH
-    }
 }

@@ -23,7 +23,7 @@ impl Matching {
     pub fn new(width: u32) -> Result<Matching, Refusal>
         ensures { elim result [ Ok m ↦ (1 ≤ width) × (width ≤ 4096) × (m.width ≡ width) | Err e ↦ Unfit width e ] }
     {
-        if width >= 1 && width <= MOST_WIDTH {
+        if (1..=MOST_WIDTH).contains(&width) {
             Ok(Matching { width })
         } else {
             Err(Refusal::BadWidth)
@@ -56,28 +56,20 @@ impl Circuit for Matching {
             Some(Making::Sum(rank - 2 * b, rank - b))
         } else if rank < 4 * b {
             Some(Making::Inversion(rank - b))
-        } else if rank == 4 * b && rank < 5 * b - 1 {
-            Some(Making::Product(3 * b + 1, 3 * b))
-        } else if rank < 5 * b - 1 {
-            Some(Making::Product(rank - b + 1, rank - 1))
-        } else {
+        } else if rank >= self.wires() {
             None
+        } else if rank == 4 * b {
+            Some(Making::Product(3 * b + 1, 3 * b))
+        } else {
+            Some(Making::Product(rank - b + 1, rank - 1))
         }
     }
 
     fn name(&self, rank: u32) -> Option<u32> {
-        if rank < 5 * self.width - 1 {
-            Some(rank)
-        } else {
-            None
-        }
+        (rank < self.wires()).then_some(rank)
     }
 
     fn rank_of(&self, name: u32) -> Option<u32> {
-        if name < 5 * self.width - 1 {
-            Some(name)
-        } else {
-            None
-        }
+        (name < self.wires()).then_some(name)
     }
 }

@@ -3,9 +3,9 @@
 
 mod cases;
 
-use cases::{CASES, Case, Left};
+use cases::{CASES, Case, Left, Place};
 use circuits::making::{Entry, Making};
-use reading::{LONGEST_TEXT, read_circuit};
+use reading::{CLEARED, LONGEST_TEXT, read_circuit};
 use std::alloc::{AllocError, Global};
 use std::io;
 use tokens::fault::{Fault, Reader};
@@ -16,17 +16,10 @@ const FILLER: Entry = Entry {
     name: 77,
 };
 
-const CLEARED: Entry = Entry {
-    making: Making::Constant(false),
-    name: 0,
-};
-
-// The number, line, byte and reader of an answer; 0, 0, 0 and the circuit reader of an accepted text.
-fn places(answer: Result<Header, Fault>) -> (u8, usize, usize, Reader) {
-    match answer {
-        Ok(_) => (0, 0, 0, Reader::Circuit),
-        Err(fault) => (fault.number(), fault.line, fault.byte, fault.reader),
-    }
+// Where a text is refused, if it is.
+fn place(answer: Result<Header, Fault>) -> Option<Place> {
+    let fault = answer.err()?;
+    Some(Place(fault.number(), fault.line, fault.byte, fault.reader))
 }
 
 // What the memory must hold at a place after a reading, where it was filler before.
@@ -38,50 +31,50 @@ fn expected(left: Left, k: usize, entry: Entry, rank: u32) -> (Entry, u32) {
     }
 }
 
-fn is_left(table: &[Entry; 5], ranks: &[u32; 5], left: Left) -> bool {
-    for k in 0..5 {
-        if (table[k], ranks[k]) != expected(left, k, table[k], ranks[k]) {
-            return false;
-        }
-    }
-    true
+fn is_left(table: &[Entry], ranks: &[u32], left: Left) -> bool {
+    table.iter().zip(ranks).enumerate().all(|(k, (entry, rank))| (*entry, *rank)
+        == expected(left, k, *entry, *rank))
 }
 
 // Whether a text gets the answer in the table.
 fn agrees(case: Case) -> bool {
-    let Case(text, number, line, byte, reader, left) = case;
+    let Case(text, refused, left) = case;
     let mut table = [FILLER; 5];
     let mut ranks = [FILLER.name; 5];
     let answer = read_circuit(text, LONGEST_TEXT, &mut table, &mut ranks);
-    places(answer) == (number, line, byte, reader) && is_left(&table, &ranks, left)
+    place(answer) == refused && is_left(&table, &ranks, left)
 }
 
-// The number that a text longer than its limit, or than any may be, is refused by.
+// The numbers that a text longer than its limit, and one longer than any may be, are refused by.
 fn too_long(heap: Global) -> Result<(u8, u8), AllocError> {
-    let short = places(read_circuit(b"2 4\n", 3, &mut [], &mut [])).0;
-    let spaces = Vec::from_elem(heap, 32u8, LONGEST_TEXT + 1)?;
-    let long = places(read_circuit(spaces.as_slice(), spaces.len(), &mut [], &mut [])).0;
-    Ok((short, long))
+    let spaces = Vec::from_elem(heap, b' ', LONGEST_TEXT + 1)?;
+    let short = read_circuit(b"2 4\n", 3, &mut [], &mut []);
+    let long = read_circuit(spaces.as_slice(), spaces.len(), &mut [], &mut []);
+    Ok((shown(place(short)).0, shown(place(long)).0))
 }
 
 // The number of wires of the largest circuit, all inputs.
 fn largest(heap: Global) -> Result<u32, AllocError> {
     let mut table = Vec::from_elem(heap, FILLER, MOST_WIRES as usize)?;
     let mut ranks = Vec::from_elem(heap, 0u32, MOST_WIRES as usize)?;
-    match read_circuit(
+    let answer = read_circuit(
         b"0 1048576\n1 1048576\n0\n",
         LONGEST_TEXT,
         table.as_mut_slice(),
         ranks.as_mut_slice(),
-    ) {
-        Ok(header) => Ok(header.wires),
-        Err(_) => Ok(0),
-    }
+    );
+    Ok(answer.map_or(0, |header| header.wires))
+}
+
+// A place as it is printed: with zeros, and the circuit reader, for a text that is accepted, so that all lines have one form.
+fn shown(refused: Option<Place>) -> Place {
+    refused.unwrap_or(Place(0, 0, 0, Reader::Circuit))
 }
 
 fn main(rt: HostRuntime) -> io::Result<()> {
     for (i, case) in CASES.iter().enumerate() {
-        let Case(_, number, line, byte, reader, left) = *case;
+        let Case(_, refused, left) = *case;
+        let Place(number, line, byte, reader) = shown(refused);
         let verdict = if agrees(*case) { "as told" } else { "WRONG" };
         println!(rt; "{i}: {number} line {line} byte {byte} {reader:?} {left:?}: {verdict}")?;
     }

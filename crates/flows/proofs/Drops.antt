@@ -8,11 +8,10 @@ use Rattle.routes.specs.Plans.{ones}
 use Rattle.routes.specs.Flows.{Flow, IsFlow, value}
 use Rattle.routes.specs.Stored.{slots}
 use Rattle.routes.proofs.Sums.{sum_none, all_of}
-use Rattle.rows.specs.Rows.{Room, cell, Between}
+use Rattle.rows.specs.Rows.{Room, cell, Between, Wiped}
 use Rattle.rows.proofs.Cells.{only_wider}
 use Rattle.rows.specs.Held.{circuit_of, bars_of}
 use Rattle.flows.specs.Kept.{flow_in}
-use Rattle.rows.specs.Loading.{Wiped}
 use Rattle.flows.specs.Stacks.{Emptied}
 use Rattle.flows.proofs.Kept.{along_is}
 use Rattle.rows.proofs.Wholes.{wiped_only, wiped_cell}

@@ -12,22 +12,19 @@ use Rattle.routes.proofs.Wires.{lower, operand_lower}
 use Rattle.routes.proofs.Stored.{slots_add_up}
 use Rattle.routes.proofs.Traces.{out_fits}
 use Rattle.rows.specs.Rows.{Room, cell}
-use Rattle.rows.specs.Held.{making, circuit_of, bars_of}
+use Rattle.rows.specs.Held.{circuit_of, bars_of}
 use Rattle.flows.specs.Kept.{flow_in, Flows, routes_in}
 use Rattle.flows.specs.Units.{Slot, Gives, Ending, Leading, Told, TracedBack}
-use Rattle.rows.proofs.HeldCircuit.{circuit_at, circuit_length}
+use Rattle.rows.proofs.HeldCircuit.{circuit_length}
 use Rattle.flows.proofs.Kept.{along_is}
 use Rattle.flows.proofs.Steps.{flow_small}
 
 -- what was read of a wire
-module _ (m : List ℕ) (n w k f s a b : ℕ) (ek : k ≡ cell m n 0 w) (ef : f ≡ cell m n 1 w) (es : s ≡ cell m n 2 w) (ea : a ≡ cell m n 9 w) (eb : b ≡ cell m n 10 w) where
-  made : making k f s ≡ at (circuit_of m n) w
-  made = (λ i. making (ek i) (ef i) (es i)) ∙ sym (circuit_at m n w)
-
-  pub along_read : (v : ℕ) → slots (making k f s) a b v ≡ (flow_in m n).along v w
+module _ (m : List ℕ) (n w : ℕ) (how : Making) (a b : ℕ) (made : how ≡ at (circuit_of m n) w) (ea : a ≡ cell m n 9 w) (eb : b ≡ cell m n 10 w) where
+  pub along_read : (v : ℕ) → slots how a b v ≡ (flow_in m n).along v w
   along_read v = (λ i. slots (made i) (ea i) (eb i) v) ∙ sym (along_is m n v w)
 
-  from_read : (v : ℕ) → sum_of (λ u. (flow_in m n).along u w) (ranks v) ≡ slots_below (making k f s) a b v
+  from_read : (v : ℕ) → sum_of (λ u. (flow_in m n).along u w) (ranks v) ≡ slots_below how a b v
   unfolding flow_in
   from_read v =
       slots_add_up.0 v (at (circuit_of m n) w) (cell m n 9 w) (cell m n 10 w)
@@ -35,7 +32,7 @@ module _ (m : List ℕ) (n w k f s a b : ℕ) (ek : k ≡ cell m n 0 w) (ef : f 
 
   module _ (room : Room n m) (ordered : Ordered (circuit_of m n)) (flows : Flows n m) (h : w < n) (unit rest : ℕ)
       (er : rest ≡ unit - (flow_in m n).start w) (some : unit < (flow_in m n).through w) (later : (flow_in m n).start w ≤ unit) where
-    pub total_read : rest < slots_total (making k f s) a b
+    pub total_read : rest < slots_total how a b
     total_read =
         let c : List Making = circuit_of m n in
         let long : length c ≡ n = circuit_length m n room in
@@ -43,11 +40,11 @@ module _ (m : List ℕ) (n w k f s a b : ℕ) (ek : k ≡ cell m n 0 w) (ef : f 
           arith,
           flows.enters w,
           from_read (length (circuit_of m n)),
-          slots_add_up.1 (length (circuit_of m n)) (making k f s)
+          slots_add_up.1 (length (circuit_of m n)) how
               (λ v o. let l : v < w = operand_lower (circuit_of m n) ordered w v (subst (λ t. Takes t v) made o) in omega (arith, long)) a b,
         )
 
-    pub gives_read : (v e : ℕ) → Slot (making k f s) a b rest v e → Gives (flow_in m n) w unit v e
+    pub gives_read : (v e : ℕ) → Slot how a b rest v e → Gives (flow_in m n) w unit v e
     gives_read v e t =
         record {
           some = subst (λ u. e < u) (along_read v) t.some;
@@ -110,12 +107,12 @@ giver_few n m ordered flows w k v e t =
     )
 
 -- the row, put in order
-pub told : (x : Flow) (i n len k : ℕ) (before mid rev : List ℕ) → k ≡ len → TracedBack x i n len before mid → len ≤ length mid → rev ≡ reverse (take k mid)
-    → Told x i n len before (rev ++ drop k mid)
-told x i n len k before mid rev ek h l e =
-    let full : length rev ≡ len = ap length e ∙ length-reverse (take k mid) ∙ length-take-le k mid (omega (arith, ek)) ∙ ek in
+pub told : (x : Flow) (i n len : ℕ) (before mid rev : List ℕ) → TracedBack x i n len before mid → len ≤ length mid → rev ≡ reverse (take len mid)
+    → Told x i n len before (rev ++ drop len mid)
+told x i n len before mid rev h l e =
+    let full : length rev ≡ len = ap length e ∙ length-reverse (take len mid) ∙ length-take-le len mid l in
     record {
-      traced = subst (Traced x i) (sym (take_at rev (drop k mid) len full ∙ e ∙ ap (λ j. reverse (take j mid)) ek)) h.traced;
+      traced = subst (Traced x i) (sym (take_at rev (drop len mid) len full ∙ e)) h.traced;
       short = h.short;
-      rest = drop_at rev (drop k mid) len full ∙ ap (λ j. drop j mid) ek ∙ h.rest;
+      rest = drop_at rev (drop len mid) len full ∙ h.rest;
     }

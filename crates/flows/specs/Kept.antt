@@ -3,6 +3,7 @@ use Rattle.std.specs.Prelude.{◌≡◌, ℕ, List}
 use Rattle.routes.specs.Plans.{ones}
 use Rattle.routes.specs.Flows.{Flow, IsFlow, value}
 use Rattle.routes.specs.Stored.{Store, flow_of}
+use Rattle.rows.specs.declared.rows.Rows.{Rows}
 use Rattle.rows.specs.Rows.{row_of, Between, Only}
 use Rattle.rows.specs.Held.{circuit_of, bars_of}
 
@@ -28,6 +29,13 @@ Flows n m = IsFlow (circuit_of m n) (bars_of m n) ones (flow_in m n)
 -- how many units there are
 abbrev pub routes_in : List ℕ → ℕ → ℕ
 routes_in m n = value (circuit_of m n) (flow_in m n)
+
+-- of rows: the flow, and how many units there are
+abbrev pub flow : Rows → Flow
+flow r = flow_in r.memory.now r.wires
+
+abbrev pub routes : Rows → ℕ
+routes r = routes_in r.memory.now r.wires
 
 -- the flow alone has changed, to y
 pub record Changed (n : ℕ) (m : List ℕ) (y : Flow) (m' : List ℕ) : Type 0 where

@@ -31,11 +31,6 @@ pub record Numbering (n : ℕ) (m m' : List ℕ) (k : ℕ) : Type 0 where
 abbrev pub noted : List ℕ → ℕ → ℕ → ℕ → ℕ → ℕ → List ℕ
 noted m n r v w k = written (written m n r w (cell m n 17 v)) n 17 v (cell m n 17 v + k)
 
--- the next unit of each wire below k is the first that does not end there
-pub record Begun (n : ℕ) (m m' : List ℕ) (k : ℕ) : Type 0 where
-  pub running : (v : ℕ) → v < k → cell m' n 17 v ≡ cell m n 11 v
-  pub rest : Only (Between 15 17) n m m'
-
 -- of the wires below k: how many units end at lower wires; and of each unit that ends at a wire below k, the wire
 pub record Endings (x : Flow) (n : ℕ) (m : List ℕ) (k : ℕ) : Type 0 where
   pub sums : (w : ℕ) → w < k → cell m n 19 w ≡ sum_of x.finish (ranks w)

@@ -2,86 +2,83 @@ ghost use Rattle.std.specs.Prelude.{◌≡◌, ◌+◌, ◌-◌, ◌*◌, ◌^�
 ghost use Rattle.routes.specs.Routes.{Ordered};
 ghost use Rattle.routes.specs.Residuals.{Step};
 ghost use Rattle.routes.specs.Plans.{Blocked, ones};
-ghost use Rattle.rows.specs.Rows.{Room};
-ghost use Rattle.rows.specs.Held.{circuit_of, bars_of};
-ghost use Rattle.flows.specs.Kept.{flow_in, routes_in, Flows, Changed};
+ghost use Rattle.rows.specs.Rows.{SameRows};
+ghost use Rattle.rows.specs.Held.{circuit_in, bars_in};
+ghost use Rattle.flows.specs.Kept.{flow, routes, Flows, Changed};
 ghost use Rattle.flows.specs.Stacks.{place, stacked, moved, Small, Pending, Pushed, Stack, Grown, Emptied};
 
 use crate::moves::{begin_one, end_one, pass_one, send_on, take_back, unpass_one};
-use rows::load::wipe;
-use rows::rows::{STACK, START, THROUGH};
+use rows::rows::{Row, Rows};
 
 // The number at a height of the stack.
-fn stack_at(memory: &[u32], wires: usize, height: usize) -> u32
-    requires room { Room wires memory.now }
-    requires within { height < 2 * wires }
-    ensures { result ≡ stacked memory.now wires height }
+fn stack_at(rows: &Rows, height: usize) -> u32
+    requires within { height < 2 * rows.now.wires }
+    ensures { result ≡ stacked rows.now.memory.now rows.now.wires height }
 {
-    memory[STACK * wires + height]
+    rows.memory[Row::Stack.number() * rows.wires + height]
 }
 
-// Sends one unit more over a step, or takes one back.
-fn push(memory: &mut [u32], wires: usize, a: u32, b: u32)
-    requires room { Room wires memory.old }
-    requires from { a < 2 * wires }
-    requires to { b < 2 * wires }
-    requires ordered { Ordered (circuit_of memory.old wires) }
-    requires step { Step (circuit_of memory.old wires) (bars_of memory.old wires) ones (flow_in memory.old wires) (place a) (place b) }
-    requires few { Small (flow_in memory.old wires) (2 ^ 32 - 2) }
-    ensures { Changed wires memory.old (moved (place a) (place b) (flow_in memory.old wires)) memory.new }
+// Sends one unit more over a step, or takes one back. Its ends are numbers, as on the stack: a type for places lies in the crate of the graphs
+// above this one, and one more for the two lines that halve them would be no plainer.
+fn push(rows: &mut Rows, a: u32, b: u32)
+    requires from { a < 2 * rows.old.wires }
+    requires to { b < 2 * rows.old.wires }
+    requires ordered { Ordered (circuit_in rows.old) }
+    requires step { Step (circuit_in rows.old) (bars_in rows.old) ones (flow rows.old) (place a) (place b) }
+    requires few { Small (flow rows.old) (2 ^ 32 - 2) }
+    ensures same { SameRows rows.old rows.new }
+    ensures flow { Changed rows.old.wires rows.old.memory.now (moved (place a) (place b) (flow rows.old)) rows.new.memory.now }
 {
     let v = a / 2;
     let w = b / 2;
     if v == w {
         if a % 2 == 0 {
-            pass_one(memory, wires, w as usize);
+            pass_one(rows, w as usize);
         } else {
-            unpass_one(memory, wires, w as usize);
+            unpass_one(rows, w as usize);
         }
     } else if a % 2 == 0 {
-        take_back(memory, wires, w, v as usize);
+        take_back(rows, w, v as usize);
     } else {
-        send_on(memory, wires, v, w as usize);
+        send_on(rows, v, w as usize);
     }
 }
 
-// Sends one unit more over each step of the path on the stack.
-fn push_all(memory: &mut [u32], wires: usize, height: usize)
-    requires room { Room wires memory.old }
-    requires ordered { Ordered (circuit_of memory.old wires) }
-    requires few { routes_in memory.old wires + 2 ^ 22 < 2 ^ 32 }
-    requires pending { Pending (circuit_of memory.old wires) (bars_of memory.old wires) wires height (stacked memory.old wires) (routes_in memory.old wires) (flow_in memory.old wires) (height - 1) }
-    ensures { Pushed wires height memory.old memory.new 0 }
+// Sends one unit more over each step of the path on the stack. The steps go by height, since the stack and what they change are one memory.
+fn push_all(rows: &mut Rows, height: usize)
+    requires ordered { Ordered (circuit_in rows.old) }
+    requires few { routes rows.old + 2 ^ 22 < 2 ^ 32 }
+    requires pending { Pending (circuit_in rows.old) (bars_in rows.old) rows.old.wires height (stacked rows.old.memory.now rows.old.wires) (routes rows.old) (flow rows.old) (height - 1) }
+    ensures same { SameRows rows.old rows.new }
+    ensures memory { Pushed rows.old.wires height rows.old.memory.now rows.new.memory.now 0 }
 {
-    let mut i = height - 1;
-    while i > 0 {
-        let b = stack_at(memory, wires, i);
-        let a = stack_at(memory, wires, i - 1);
-        push(memory, wires, a, b);
-        i -= 1;
+    for i in (1..height).rev() {
+        let b = stack_at(rows, i);
+        let a = stack_at(rows, i - 1);
+        push(rows, a, b);
     }
 }
 
 // One route more, along the path on the stack.
-pub fn grow(memory: &mut [u32], wires: usize, height: usize)
-    requires room { Room wires memory.old }
-    requires ordered { Ordered (circuit_of memory.old wires) }
-    requires unblocked { Blocked (circuit_of memory.old wires) (bars_of memory.old wires) → ⊥ }
-    requires flows { Flows wires memory.old }
-    requires stack { Stack wires memory.old height }
-    ensures { Grown wires height memory.old memory.new }
+pub fn grow(rows: &mut Rows, height: usize)
+    requires ordered { Ordered (circuit_in rows.old) }
+    requires unblocked { Blocked (circuit_in rows.old) (bars_in rows.old) → ⊥ }
+    requires flows { Flows rows.old.wires rows.old.memory.now }
+    requires stack { Stack rows.old.wires rows.old.memory.now height }
+    ensures same { SameRows rows.old rows.new }
+    ensures memory { Grown rows.old.wires height rows.old.memory.now rows.new.memory.now }
 {
-    let last = stack_at(memory, wires, height - 1);
-    end_one(memory, wires, last as usize / 2);
-    push_all(memory, wires, height);
-    let first = stack_at(memory, wires, 0);
-    begin_one(memory, wires, first as usize / 2);
+    let last = stack_at(rows, height - 1);
+    end_one(rows, last as usize / 2);
+    push_all(rows, height);
+    let first = stack_at(rows, 0);
+    begin_one(rows, first as usize / 2);
 }
 
 // Drops all routes.
-pub fn drop_routes(memory: &mut [u32], wires: usize)
-    requires room { Room wires memory.old }
-    ensures { Emptied wires memory.old memory.new }
+pub fn drop_routes(rows: &mut Rows)
+    ensures same { SameRows rows.old rows.new }
+    ensures memory { Emptied rows.old.wires rows.old.memory.now rows.new.memory.now }
 {
-    wipe(memory, START * wires, (THROUGH + 1) * wires);
+    rows.clear(Row::Start, Row::Marks);
 }

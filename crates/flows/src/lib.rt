@@ -1,4 +1,6 @@
 // The flow of a planning, kept as numbers in the rows of lent memory: grown along paths, traced as routes, and closed as a plan.
+// The functions of its modules take rows, a type of the crate below, and have no struct that keeps what holds of the flow or of a wire: as a ghost field it would
+// have to be shown again at each write, and `Flows` does not hold while a path is pushed or a bar is set.
 // The functions here carry theorems in their contracts, and do nothing.
 #![tactic(auto)]
 

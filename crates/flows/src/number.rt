@@ -1,168 +1,177 @@
 ghost use Rattle.std.specs.Prelude.{◌≡◌, ℕ, ◌+◌, ◌^◌, ◌<◌, ◌≤◌, ◌≢◌};
 ghost use Rattle.routes.specs.Routes.{Passes, Ordered};
 ghost use Rattle.routes.specs.Traces.{first_to};
-ghost use Rattle.rows.specs.Rows.{Room, cell};
-ghost use Rattle.rows.specs.Held.{circuit_of};
-ghost use Rattle.flows.specs.Kept.{flow_in, Flows, routes_in};
+ghost use Rattle.rows.specs.Rows.{cell, row_number, SameRows};
+ghost use Rattle.rows.specs.Held.{circuit_in, circuit_of};
+ghost use Rattle.flows.specs.Kept.{flow, Flows, routes, flow_in, routes_in};
 ghost use Rattle.flows.specs.Units.{Ending};
 ghost use Rattle.flows.specs.Numbers.{Numbers, Numbered, Numbering, noted, Endings, Ended, Marked, Prepared};
 
-use rows::rows::{FINISH, FIRST, FROM_FIRST, FROM_SECOND, KIND, SECOND, get, put};
+use circuits::making::Making;
+use rows::rows::{Row, Rows, View};
 
-const BEFORE_FIRST: usize = 15;
+// What tracing reads is noted in the rows of the stack and of the steps tried, since the search is over then, and in one row more.
+const BEFORE_FIRST: Row = Row::Stack;
 
-const BEFORE_SECOND: usize = 16;
+const BEFORE_SECOND: Row = Row::StackSecond;
 
-const RUNNING: usize = 17;
+const RUNNING: Row = Row::Tried;
 
-const ENDS_AT: usize = 18;
+const ENDS_AT: Row = Row::TriedSecond;
 
-const ENDED_BEFORE: usize = 19;
+const ENDED_BEFORE: Row = Row::Ended;
 
-const SUM: u32 = 3;
+// One of the units at a wire.
+#[derive(Clone, Copy, PartialEq, Eq, Debug)]
+pub struct UnitAt {
+    pub wire: u32,
+    pub number: u32,
+}
 
-// Notes the number of the next unit of a wire, and counts on.
-fn note(memory: &mut [u32], wires: usize, row: usize, from: usize, wire: usize, units: u32)
-    requires room { Room wires memory.old }
-    requires row { row < 24 }
-    requires other { row ≢ 17 }
-    requires from { from < wires }
-    requires wire { wire < wires }
-    requires few { cell memory.old wires 17 from + units < 2 ^ 32 }
-    ensures { memory.new ≡ noted memory.old wires row from wire units }
+// Notes the number of the next unit of a wire, and counts on. Over the slice itself, as are the first numbers below: `get` and `put` fetch it again
+// after each write, and took a quarter longer.
+fn note(rows: &mut Rows, row: Row, from: usize, wire: usize, units: u32)
+    requires other { row_number row ≢ 17 }
+    requires from { from < rows.old.wires }
+    requires wire { wire < rows.old.wires }
+    requires few { cell rows.old.memory.now rows.old.wires 17 from + units < 2 ^ 32 }
+    ensures same { SameRows rows.old rows.new }
+    ensures memory { rows.new.memory.now ≡ noted rows.old.memory.now rows.old.wires (row_number row) from wire units }
 {
-    let next = get(memory, wires, RUNNING, from);
-    put(memory, wires, row, wire, next);
-    put(memory, wires, RUNNING, from, next + units);
+    let wires = rows.wires;
+    let memory = &mut *rows.memory;
+    let next = memory[RUNNING.number() * wires + from];
+    memory[row.number() * wires + wire] = next;
+    memory[RUNNING.number() * wires + from] = next + units;
 }
 
 // Numbers the units that come to one wire.
-fn number_wire(memory: &mut [u32], wires: usize, wire: usize)
-    requires room { Room wires memory.old }
-    requires ordered { Ordered (circuit_of memory.old wires) }
-    requires wire { wire < wires }
-    requires few { (v : ℕ) → first_to (flow_in memory.old wires) v (wire + 1) < 2 ^ 32 }
-    requires numbers { Numbers (circuit_of memory.old wires) (flow_in memory.old wires) wires memory.old wire }
-    ensures { Numbering wires memory.old memory.new (wire + 1) }
+fn number_wire(rows: &mut Rows, wire: usize)
+    requires ordered { Ordered (circuit_in rows.old) }
+    requires wire { wire < rows.old.wires }
+    requires few { (v : ℕ) → first_to (flow rows.old) v (wire + 1) < 2 ^ 32 }
+    requires numbers { Numbers (circuit_in rows.old) (flow rows.old) rows.old.wires rows.old.memory.now wire }
+    ensures same { SameRows rows.old rows.new }
+    ensures memory { Numbering rows.old.wires rows.old.memory.now rows.new.memory.now (wire + 1) }
 {
-    let kind = get(memory, wires, KIND, wire);
-    let first = get(memory, wires, FIRST, wire);
-    let second = get(memory, wires, SECOND, wire);
-    let a = get(memory, wires, FROM_FIRST, wire);
-    let b = get(memory, wires, FROM_SECOND, wire);
-    if kind == 0 || kind > SUM {
-        return;
-    }
-    note(memory, wires, BEFORE_FIRST, first as usize, wire, a);
-    if kind == SUM {
-        note(memory, wires, BEFORE_SECOND, second as usize, wire, b);
+    let a = rows.get(Row::FromFirst, wire);
+    let b = rows.get(Row::FromSecond, wire);
+    match rows.making(wire) {
+        Making::Copy(first) | Making::Inversion(first) => {
+            note(rows, BEFORE_FIRST, first as usize, wire, a);
+        }
+        Making::Sum(first, second) => {
+            note(rows, BEFORE_FIRST, first as usize, wire, a);
+            note(rows, BEFORE_SECOND, second as usize, wire, b);
+        }
+        Making::Input | Making::Constant(_) | Making::Product(_, _) => {}
     }
 }
 
 // The units that end come first.
-fn begin_numbers(memory: &mut [u32], wires: usize)
-    requires room { Room wires memory.old }
-    ensures { Numbering wires memory.old memory.new 0 }
+fn begin_numbers(rows: &mut Rows)
+    ensures same { SameRows rows.old rows.new }
+    ensures memory { Numbering rows.old.wires rows.old.memory.now rows.new.memory.now 0 }
 {
-    for v in 0..wires {
-        let ends = get(memory, wires, FINISH, v);
-        put(memory, wires, RUNNING, v, ends);
-    }
+    let finish = Row::Finish.number() * rows.wires;
+    let running = RUNNING.number() * rows.wires;
+    rows.memory
+        .copy_within(finish..finish + rows.wires, running);
 }
 
-// Numbers the units of each wire in turn.
-fn number_wires(memory: &mut [u32], wires: usize)
-    requires room { Room wires memory.old }
-    requires ordered { Ordered (circuit_of memory.old wires) }
-    requires flows { Flows wires memory.old }
-    requires few { routes_in memory.old wires < 2 ^ 32 }
-    requires numbers { Numbers (circuit_of memory.old wires) (flow_in memory.old wires) wires memory.old 0 }
-    ensures { Numbering wires memory.old memory.new wires }
+// Numbers the units of each wire in turn. Here and below wires go by rank, since each is read and written in several rows of one memory.
+fn number_wires(rows: &mut Rows)
+    requires ordered { Ordered (circuit_in rows.old) }
+    requires flows { Flows rows.old.wires rows.old.memory.now }
+    requires few { routes rows.old < 2 ^ 32 }
+    requires numbers { Numbers (circuit_in rows.old) (flow rows.old) rows.old.wires rows.old.memory.now 0 }
+    ensures same { SameRows rows.old rows.new }
+    ensures memory { Numbering rows.old.wires rows.old.memory.now rows.new.memory.now rows.old.wires }
 {
-    for w in 0..wires {
-        number_wire(memory, wires, w);
+    for w in 0..rows.wires {
+        number_wire(rows, w);
     }
 }
 
 // Numbers the units of the flow.
-fn number_units(memory: &mut [u32], wires: usize)
-    requires room { Room wires memory.old }
-    requires ordered { Ordered (circuit_of memory.old wires) }
-    requires flows { Flows wires memory.old }
-    requires few { routes_in memory.old wires < 2 ^ 32 }
-    ensures { Numbering wires memory.old memory.new wires }
+fn number_units(rows: &mut Rows)
+    requires ordered { Ordered (circuit_in rows.old) }
+    requires flows { Flows rows.old.wires rows.old.memory.now }
+    requires few { routes rows.old < 2 ^ 32 }
+    ensures same { SameRows rows.old rows.new }
+    ensures memory { Numbering rows.old.wires rows.old.memory.now rows.new.memory.now rows.old.wires }
 {
-    begin_numbers(memory, wires);
-    number_wires(memory, wires);
+    begin_numbers(rows);
+    number_wires(rows);
 }
 
 // The number, as units leave, of the first unit to a wire.
-pub fn noted_before(memory: &[u32], wires: usize, from: u32, wire: usize) -> u32
-    requires room { Room wires memory.now }
-    requires wire { wire < wires }
-    requires fed { Passes (circuit_of memory.now wires) wire from }
-    requires numbered { Numbered wires memory.now }
-    ensures { result ≡ first_to (flow_in memory.now wires) from wire }
+pub fn noted_before(rows: &View, from: u32, wire: usize) -> u32
+    requires wire { wire < rows.now.wires }
+    requires fed { Passes (circuit_of rows.now.memory.now rows.now.wires) wire from }
+    requires numbered { Numbered rows.now.wires rows.now.memory.now }
+    ensures { result ≡ first_to (flow_in rows.now.memory.now rows.now.wires) from wire }
 {
-    if get(memory, wires, FIRST, wire) == from {
-        get(memory, wires, BEFORE_FIRST, wire)
+    if rows.get(Row::First, wire) == from {
+        rows.get(BEFORE_FIRST, wire)
     } else {
-        get(memory, wires, BEFORE_SECOND, wire)
+        rows.get(BEFORE_SECOND, wire)
     }
 }
 
 // Notes a wire for each of the units that end there.
-fn mark_ends(memory: &mut [u32], wires: usize, from: usize, to: usize, wire: u32)
-    requires room { Room wires memory.old }
+fn mark_ends(rows: &mut Rows, from: usize, to: usize, wire: u32)
     requires order { from ≤ to }
-    requires within { to ≤ wires }
-    ensures { Marked wires memory.old memory.new from to wire }
+    requires within { to ≤ rows.old.wires }
+    ensures same { SameRows rows.old rows.new }
+    ensures memory { Marked rows.old.wires rows.old.memory.now rows.new.memory.now from to wire }
 {
-    for i in from..to {
-        put(memory, wires, ENDS_AT, i, wire);
-    }
+    let row = ENDS_AT.number() * rows.wires;
+    rows.memory[row + from..row + to].fill(wire);
 }
 
-// Notes where each unit ends.
-fn number_ends(memory: &mut [u32], wires: usize)
-    requires room { Room wires memory.old }
-    requires ordered { Ordered (circuit_of memory.old wires) }
-    requires flows { Flows wires memory.old }
-    requires few { routes_in memory.old wires ≤ wires }
-    ensures { Ended wires memory.old memory.new wires }
+// Notes where each unit ends. A loop, since where a wire's units begin is the sum of those before.
+fn number_ends(rows: &mut Rows)
+    requires ordered { Ordered (circuit_in rows.old) }
+    requires flows { Flows rows.old.wires rows.old.memory.now }
+    requires few { routes rows.old ≤ rows.old.wires }
+    ensures same { SameRows rows.old rows.new }
+    ensures memory { Ended rows.old.wires rows.old.memory.now rows.new.memory.now rows.old.wires }
 {
     let mut total: u32 = 0;
-    for w in 0..wires {
-        put(memory, wires, ENDED_BEFORE, w, total);
-        let next = total + get(memory, wires, FINISH, w);
-        mark_ends(memory, wires, total as usize, next as usize, w as u32);
+    for w in 0..rows.wires {
+        let next = total + rows.get(Row::Finish, w);
+        rows.put(ENDED_BEFORE, w, total);
+        mark_ends(rows, total as usize, next as usize, w as u32);
         total = next;
     }
 }
 
 // Notes all that tracing reads.
-pub fn prepare(memory: &mut [u32], wires: usize)
-    requires room { Room wires memory.old }
-    requires ordered { Ordered (circuit_of memory.old wires) }
-    requires flows { Flows wires memory.old }
-    requires few { routes_in memory.old wires ≤ wires }
-    ensures { Prepared wires memory.old memory.new }
+pub fn prepare(rows: &mut Rows)
+    requires ordered { Ordered (circuit_in rows.old) }
+    requires flows { Flows rows.old.wires rows.old.memory.now }
+    requires few { routes rows.old ≤ rows.old.wires }
+    ensures same { SameRows rows.old rows.new }
+    ensures memory { Prepared rows.old.wires rows.old.memory.now rows.new.memory.now }
 {
-    number_ends(memory, wires);
-    number_units(memory, wires);
+    number_ends(rows);
+    number_units(rows);
 }
 
 // The wire at which a unit ends, and its number there.
-pub fn ending_noted(memory: &[u32], wires: usize, i: u32) -> (u32, u32)
-    requires room { Room wires memory.now }
-    requires ordered { Ordered (circuit_of memory.now wires) }
-    requires flows { Flows wires memory.now }
-    requires few { routes_in memory.now wires ≤ wires }
-    requires some { i < routes_in memory.now wires }
-    requires endings { Endings (flow_in memory.now wires) wires memory.now wires }
-    ensures { Ending (flow_in memory.now wires) wires i result.0 result.1 }
+pub fn ending_noted(rows: &View, i: u32) -> UnitAt
+    requires ordered { Ordered (circuit_of rows.now.memory.now rows.now.wires) }
+    requires flows { Flows rows.now.wires rows.now.memory.now }
+    requires few { routes_in rows.now.memory.now rows.now.wires ≤ rows.now.wires }
+    requires some { i < routes_in rows.now.memory.now rows.now.wires }
+    requires endings { Endings (flow_in rows.now.memory.now rows.now.wires) rows.now.wires rows.now.memory.now rows.now.wires }
+    ensures { Ending (flow_in rows.now.memory.now rows.now.wires) rows.now.wires i result.wire result.number }
 {
-    let w = get(memory, wires, ENDS_AT, i as usize);
-    let before = get(memory, wires, ENDED_BEFORE, w as usize);
-    (w, i - before)
+    let wire = rows.get(ENDS_AT, i as usize);
+    let before = rows.get(ENDED_BEFORE, wire as usize);
+    UnitAt {
+        wire,
+        number: i - before,
+    }
 }

@@ -1,29 +1,28 @@
 ghost use Rattle.std.specs.Prelude.{◌≡◌, ◌<◌, ◌≤◌, length};
 ghost use Rattle.routes.specs.Residuals.{border};
-ghost use Rattle.rows.specs.Rows.{Room};
 ghost use Rattle.flows.specs.Found.{marks};
 ghost use Rattle.flows.specs.Listing.{Listing, count};
 
-use rows::rows::MARKS;
+use rows::rows::{Row, View};
 
-// Is the entry of a wire marked, and its exit not?
-fn on_border(memory: &[u32], wires: usize, wire: usize) -> bool
-    requires room { Room wires memory.now }
-    requires wire { wire < wires }
-    ensures { result ≡ border (marks memory.now wires) wire }
+// Whether the entry of a wire is marked, and its exit not.
+fn on_border(rows: &View, wire: usize) -> bool
+    requires wire { wire < rows.now.wires }
+    ensures { result ≡ border (marks rows.now.memory.now rows.now.wires) wire }
 {
-    memory[MARKS * wires + 2 * wire] != 0 && memory[MARKS * wires + (2 * wire + 1)] == 0
+    let entry = Row::Marks.number() * rows.wires + 2 * wire;
+    rows.memory[entry] != 0 && rows.memory[entry + 1] == 0
 }
 
 // Writes the wires of the border, ascending, and answers how many.
-pub fn write_plan(memory: &[u32], wires: usize, out: &mut [u32]) -> usize
-    requires room { Room wires memory.now }
-    requires long { count (border (marks memory.now wires)) wires ≤ length out.old }
-    ensures { Listing (border (marks memory.now wires)) wires result out.old out.new }
+pub fn write_plan(rows: &View, out: &mut [u32]) -> usize
+    requires long { count (border (marks rows.now.memory.now rows.now.wires)) rows.now.wires ≤ length out.old }
+    ensures { Listing (border (marks rows.now.memory.now rows.now.wires)) rows.now.wires result out.old out.new }
 {
+    // A loop, since wires go by rank and how many were written is the answer.
     let mut len = 0;
-    for w in 0..wires {
-        if on_border(memory, wires, w) {
+    for w in 0..rows.wires {
+        if on_border(rows, w) {
             out[len] = w as u32;
             len += 1;
         }

@@ -1,8 +1,13 @@
 -- What a search over the residual graph decides.
-use Rattle.std.proofs.Common.{◌≡◌, ℕ, zero, suc, ◌+◌, ◌-◌, ◌*◌, ◌/◌, ◌%◌, ◌<◌, ◌≤◌, Bool, true, false, cond, not, ◌&&◌, eqb, ltb, ◌↔◌, List, [], length, get_or, sym, refl, ap, ◌∙◌, subst, ⊎_elim, arith}
-use Rattle.std.proofs.lemmas.List.FromFn.{length-map-range_with_len}
+use Rattle.std.proofs.Common.{◌≡◌, ℕ, ◌+◌, ◌-◌, ◌*◌, ◌/◌, ◌%◌, ◌<◌, ◌≤◌, true, not, ◌&&◌, eqb, ltb, ◌↔◌, List, [], map, length, get_or, ◌≢◌, sym, ap, ◌∙◌, subst, ⊎_elim, arith}
+use Rattle.std.specs.List.{range_with_len, list_any, AllPairs}
+use Rattle.std.proofs.lemmas.List.FromFn.{get_or-map-range_with_len, length-map-range_with_len}
+use Rattle.std.proofs.lemmas.List.Folds.{Any-from_list_any}
+use Rattle.std.proofs.lemmas.Map.Made.{IsDistinct-from_AllPairs}
+use Rattle.std.proofs.lemmas.Map.Steps.{length-le_from_distinct_below}
+use Rattle.std.proofs.lemmas.Bool.Decides.{Decides-eqb}
 use Rattle.std.proofs.lemmas.List.{get_or_past}
-use Rattle.std.proofs.lemmas.Bool.{cases_lt, cond_both, eqb-true, eqb-false}
+use Rattle.std.proofs.lemmas.Bool.{cases_lt, eqb-true}
 use Rattle.routes.specs.Routes.{Ordered, Passes, Ends}
 use Rattle.search.specs.Graphs.{row, Step, Reaches, start, onward}
 use Rattle.search.specs.Rows.{stacked}
@@ -22,29 +27,25 @@ use Rattle.graphs.specs.ResidualSteps.{residual_row}
 
 -- different numbers below n are at most n
 at_most : (n h : ℕ) (f : ℕ → ℕ) → ((k : ℕ) → k < h → f k < n) → ((j k : ℕ) → j < k → k < h → f j ≡ f k → ⊥) → h ≤ n
-at_most n zero f below apart = omega arith
-at_most zero (suc h) f below apart = absurd (omega (arith, below 0 (omega arith)))
-at_most (suc n) (suc h) f below apart = omega (arith, at_most n h g g_below g_apart)
+at_most n h f below apart = omega (arith, long, length-le_from_distinct_below xs n (IsDistinct-from_AllPairs Decides-eqb xs differ) low)
   where
-    -- f without the number n: what had it has the last number
-    g : ℕ → ℕ
-    g j = cond (eqb (f j) n) (f h) (f j)
+    xs : List ℕ
+    xs = map f (range_with_len 0 h)
 
-    g_below : (j : ℕ) → j < h → g j < n
-    g_below j l =
-        let ne : f j ≡ f h → ⊥ = apart j h l (omega arith) in
-        cond_both (eqb (f j) n) (f h) (f j) (λ x. x < n)
-        (λ e. omega (arith, below h (omega arith), eqb-true (f j) n e))
-        (λ e. let other : f j ≡ n → ⊥ = eqb-false (f j) n e in omega (arith, below j (omega arith)))
+    long : length xs ≡ h
+    long = length-map-range_with_len f 0 h
 
-    told_apart : (j k : ℕ) → j < k → k < h → (s t : Bool) → eqb (f j) n ≡ s → eqb (f k) n ≡ t → cond s (f h) (f j) ≡ cond t (f h) (f k) → ⊥
-    told_apart j k l m true true p q e = apart j k l (omega arith) (eqb-true (f j) n p ∙ sym (eqb-true (f k) n q))
-    told_apart j k l m true false p q e = apart k h m (omega arith) (sym e)
-    told_apart j k l m false true p q e = apart j h (omega arith) (omega arith) e
-    told_apart j k l m false false p q e = apart j k l (omega arith) e
+    at : (k d : ℕ) → k < h → get_or xs k d ≡ f k
+    at k d l = get_or-map-range_with_len f 0 h k k d l (omega arith)
 
-    g_apart : (j k : ℕ) → j < k → k < h → g j ≡ g k → ⊥
-    g_apart j k l m e = told_apart j k l m (eqb (f j) n) (eqb (f k) n) refl refl e
+    differ : AllPairs (λ x y. x ≢ y) xs
+    differ j k d a b e = apart j k a (omega (arith, b, long)) (sym (at j d (omega (arith, a, b, long))) ∙ e ∙ at k d (omega (arith, b, long)))
+
+    low : (q : ℕ) → list_any (eqb q) xs ≡ true → q < n
+    low q e =
+        let k = Any-from_list_any (eqb q) xs e in
+        let l : k.0 < h = omega (arith, k.2, long) in
+        omega (arith, eqb-true q k.1 k.4, k.3, at k.0 k.1 l, below k.0 l)
 
 -- the memory's numbers in place of those in front
 module _ (n : ℕ) (m : List ℕ) where

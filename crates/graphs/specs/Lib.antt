@@ -1,4 +1,5 @@
 pub mod Fronts
+pub mod InFront
 pub mod Meanings
 pub mod Outcomes
 pub mod BarredSteps

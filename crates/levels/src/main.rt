@@ -4,7 +4,7 @@
 #![tactic(auto)]
 
 use anyhow::anyhow;
-use circuits::answer::Levels;
+use circuits::answer::Overrun;
 use circuits::circuit::Circuit;
 use circuits::growth::{Exponential, Linear, LinearTwenty, Scheme};
 use circuits::levels::level_run;
@@ -32,8 +32,8 @@ fn show_run<C: Circuit, S: Scheme>(
     print!(rt; "  plan {plan:?}, {title}, limit {limit}: ")?;
     let mut memory = vec![in rt.alloc(); 0u32; circuit.wires() as usize]?;
     match level_run(circuit, plan, scheme, &mut memory) {
-        Ok(Levels::Clean) => println!(rt; "clean, outgoing levels {memory:?}")?,
-        Ok(Levels::Overrun((rank, level))) => println!(rt;
+        Ok(None) => println!(rt; "clean, outgoing levels {memory:?}")?,
+        Ok(Some(Overrun { rank, level })) => println!(rt;
             "the wire at rank {rank} has level {level}"
         )?,
         Err(refusal) => {
@@ -108,14 +108,16 @@ fn show_examples(rt: &HostRuntime) -> anyhow::Result<()> {
     show_chain(rt)
 }
 
+fn number(word: &str) -> anyhow::Result<u32> {
+    word.parse::<u32>()
+        .map_err(|_| anyhow!("usage: levels [WIDTH [RANK ..]]"))
+}
+
 fn run(rt: &HostRuntime) -> anyhow::Result<()> {
-    let mut numbers = Vec::new(rt.alloc());
-    for word in env::args(rt)?.skip(1) {
-        match word.as_str().parse::<u32>() {
-            Ok(number) => numbers.push(number)?,
-            Err(_) => return Err(anyhow!("usage: levels [WIDTH [RANK ..]]")),
-        }
-    }
+    let numbers: Vec<u32> = env::args(rt)?
+        .skip(1)
+        .map(|word| number(word.as_str()))
+        .try_collect(rt.alloc())?;
     match numbers.as_slice() {
         [] => show_examples(rt),
         [width, plan @ ..] => show_matching(rt, *width, plan),

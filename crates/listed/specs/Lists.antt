@@ -1,5 +1,5 @@
 -- A graph of n places by numbers: n flags, n + 1 offsets into the targets, and then t targets. Any numbers mean a graph.
-use Rattle.std.specs.Prelude.{◌≡◌, ℕ, ◌+◌, ◌-◌, ◌*◌, ◌^◌, ◌<◌, ◌≤◌, min, cond, List, map, length, take, Ok, Err, Result, ◌==◌, nat_lt, slice_index}
+use Rattle.std.specs.Prelude.{◌≡◌, ℕ, ◌+◌, ◌-◌, ◌*◌, ◌^◌, ◌<◌, ◌≤◌, ◌⊎◌, min, cond, List, map, length, take, Ok, Err, Result, ◌==◌, nat_lt, slice_index}
 use Rattle.std.specs.List.{range_with_len}
 use Rattle.circuits.specs.Answers.{number_of}
 use Rattle.circuits.specs.declared.answer.Refusal.{Refusal}
@@ -45,6 +45,16 @@ listed n t =
 abbrev pub UnlessLarge : {A : Type 0} → ℕ → (A → Type 0) → Result A Refusal → Type 0
 UnlessLarge size told (Ok v) = (size < 2 ^ 32) × told v
 UnlessLarge size told (Err e) = (2 ^ 32 ≤ size) × (number_of e ≡ 5)
+
+-- what steps reach is marked; or refused by 5 where the numbers would be 2 ^ 32 or more, else by 11 where the memory is too short, and the memory is as it was
+abbrev pub MarksListed : ℕ → ℕ → List ℕ → List ℕ → Result Unit Refusal → Type 0
+MarksListed n t before after (Ok _) =
+    (size n t < 2 ^ 32)
+    × (needed (listed n t) ≤ length before)
+    × RowsOnly (listed n t) before after
+    × Marked ((listed n t).steps (take (size n t) before)) ((listed n t).chosen (take (size n t) before)) (size n t) n after
+MarksListed n t before after (Err e) =
+    (((2 ^ 32 ≤ size n t) × (number_of e ≡ 5)) ⊎ ((size n t < 2 ^ 32) × (length before < needed (listed n t)) × (number_of e ≡ 11))) × (after ≡ before)
 
 -- what steps reach is marked and the answer is 0; or the answer is the number of the refusal, and the memory is as it was
 pub record MarksByNumber (n t : ℕ) (before after : List ℕ) (r : ℕ) : Type 0 where

@@ -2,19 +2,24 @@
 #![tactic(auto)]
 
 ghost use Rattle.std.specs.Prelude.{◌≡◌, ◌^◌, ◌<◌};
-ghost use Rattle.listed.specs.Lists.{size, listed, UnlessLarge, MarksByNumber};
+ghost use Rattle.listed.specs.Lists.{size, listed, UnlessLarge, MarksListed};
 ghost use Rattle.listed.specs.Listing.{listed_inside};
 
 use circuits::answer::Refusal;
 use search::graph::Graph;
 use search::mark_reached;
 
-// The flag of a place to start from.
-pub const CHOSEN: u32 = 1;
+// What a place is for the search, by its number in the memory; any other number is that of a plain place.
+#[derive(Clone, Copy, PartialEq, Eq, Debug)]
+pub enum Flag {
+    Plain = 0,
+    // The search starts from it.
+    Chosen = 1,
+    // The search looks for it.
+    Goal = 2,
+}
 
-// The flag of a place that is looked for.
-pub const GOAL: u32 = 2;
-
+// A place, by its number: a type of its own, so that no number is taken for one.
 #[derive(Clone, Copy, PartialEq, Eq, Debug)]
 pub struct Node(pub u32);
 
@@ -63,11 +68,13 @@ impl Graph for Listed {
         place.0
     }
 
+    #[tactic(auto, using(crate::specs::Listing::degree_is, crate::specs::Listing::start_in, crate::specs::Listing::stop_in))]
     fn degree(&self, memory: &[u32], place: Node) -> u32 {
         let at = (self.places + place.0) as usize;
         memory[at + 1].min(self.targets).saturating_sub(memory[at])
     }
 
+    #[tactic(auto, using(crate::specs::Listing::target_in, crate::specs::Listing::step_in))]
     fn step(&self, memory: &[u32], place: Node, i: u32) -> Node {
         let start = memory[(self.places + place.0) as usize];
         let target = memory[(2 * self.places + 1 + (start + i)) as usize];
@@ -79,23 +86,18 @@ impl Graph for Listed {
     }
 
     fn is_goal(&self, memory: &[u32], place: Node) -> bool {
-        memory[place.0 as usize] == GOAL
+        memory[place.0 as usize] == Flag::Goal as u32
     }
 
     fn is_chosen(&self, memory: &[u32], place: Node) -> bool {
-        memory[place.0 as usize] == CHOSEN
+        memory[place.0 as usize] == Flag::Chosen as u32
     }
 }
 
-// Marks what steps reach, for callers in other languages: 0, or the number of the refusal.
-pub fn mark_listed(memory: &mut [u32], places: u32, targets: u32) -> u32
-    ensures { MarksByNumber places targets memory.old memory.new result }
+// Marks what steps reach in the graph that lies in the memory.
+pub fn mark_listed(memory: &mut [u32], places: u32, targets: u32) -> Result<(), Refusal>
+    ensures { MarksListed places targets memory.old memory.new result }
 {
-    match Listed::new(places, targets) {
-        Ok(graph) => match mark_reached(&graph, memory) {
-            Ok(()) => 0,
-            Err(refusal) => refusal.number() as u32,
-        },
-        Err(refusal) => refusal.number() as u32,
-    }
+    let graph = Listed::new(places, targets)?;
+    mark_reached(&graph, memory)
 }

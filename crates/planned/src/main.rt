@@ -1,6 +1,7 @@
 // Runs lists of calls on plannings of built-in circuits, through the call that carries the law of runs, and prints each answer.
 #![tactic(auto)]
 
+use circuits::answer::Refusal;
 use circuits::making::{Entry, Making};
 use circuits::table::Table;
 use plannings::run_calls;
@@ -10,55 +11,29 @@ use std::alloc::{AllocError, Global};
 // A room that is long enough for every plan and route of the circuits here.
 const ROOM: usize = 9;
 
+// How much memory a planning takes, as `run_calls` says.
 const NUMBERS_PER_WIRE: usize = 24;
 
-fn wire(making: Making, name: u32) -> Entry {
-    Entry { making, name }
-}
-
+// The inputs and then the produced wires, each named by its rank.
 fn entries(heap: Global, inputs: u32, produced: &[Making]) -> Result<Vec<Entry>, AllocError> {
-    let mut list = Vec::new(heap);
-    let mut name = 0u32;
-    for _ in 0..inputs {
-        list.push(wire(Making::Input, name))?;
-        name = name.saturating_add(1);
-    }
-    for making in produced {
-        list.push(wire(*making, name))?;
-        name = name.saturating_add(1);
-    }
-    Ok(list)
+    (0..inputs)
+        .map(|_| Making::Input)
+        .chain(produced.iter().copied())
+        .zip(0..u32::MAX)
+        .map(|(making, name)| Entry { making, name })
+        .collect(heap)
 }
 
-fn ranks(heap: Global, wires: usize) -> Result<Vec<u32>, AllocError> {
-    let mut list = Vec::new(heap);
-    let mut rank = 0u32;
-    for _ in 0..wires {
-        list.push(rank)?;
-        rank = rank.saturating_add(1);
-    }
-    Ok(list)
-}
-
-fn show_call(rt: &HostRuntime, call: Call) -> anyhow::Result<()> {
-    match call {
-        Call::Bar(rank) => print!(rt; "  bar {rank}: ")?,
-        Call::Unbar(rank) => print!(rt; "  unbar {rank}: ")?,
-        Call::Step => print!(rt; "  step: ")?,
-        Call::Plan(room) => print!(rt; "  plan, room for {room}: ")?,
-        Call::Route(index, room) => print!(rt; "  route {index}, room for {room}: ")?,
-    }
-    Ok(())
-}
-
-fn show_answer(rt: &HostRuntime, answer: Answer, written: &[u32]) -> anyhow::Result<()> {
+fn show_answer(
+    rt: &HostRuntime,
+    answer: Result<Answer, Refusal>,
+    written: &[u32],
+) -> anyhow::Result<()> {
     match answer {
-        Answer::Done => println!(rt; "done")?,
-        Answer::Grown => println!(rt; "grown")?,
-        Answer::Closed => println!(rt; "closed")?,
-        Answer::Blocked => println!(rt; "blocked")?,
-        Answer::Planned(_) | Answer::Routed(_) => println!(rt; "{written:?}")?,
-        Answer::Refused(refusal) => {
+        Ok(Answer::Done) => println!(rt; "done")?,
+        Ok(Answer::Stepped(stepped)) => println!(rt; "{stepped}")?,
+        Ok(Answer::Planned(_) | Answer::Routed(_)) => println!(rt; "{written:?}")?,
+        Err(refusal) => {
             let number = refusal.number();
             println!(rt; "refused by {number}: {refusal}")?;
         }
@@ -67,9 +42,9 @@ fn show_answer(rt: &HostRuntime, answer: Answer, written: &[u32]) -> anyhow::Res
 }
 
 // How many numbers of its room a call wrote.
-fn count_written(answer: Answer) -> usize {
+fn count_written(answer: Result<Answer, Refusal>) -> usize {
     match answer {
-        Answer::Planned(count) | Answer::Routed(count) => count,
+        Ok(Answer::Planned(count) | Answer::Routed(count)) => count,
         _ => 0,
     }
 }
@@ -77,12 +52,12 @@ fn count_written(answer: Answer) -> usize {
 fn show_all(
     rt: &HostRuntime,
     calls: &[Call],
-    answers: &[Answer],
+    answers: &[Result<Answer, Refusal>],
     room: &[u32],
 ) -> anyhow::Result<()> {
     let mut rest = room;
     for (call, answer) in calls.iter().zip(answers.iter()) {
-        show_call(rt, *call)?;
+        print!(rt; "  {call}: ")?;
         let lent = call.room().min(rest.len());
         let (mine, others) = rest.split_at(lent);
         let count = count_written(*answer).min(mine.len());
@@ -102,11 +77,11 @@ fn show_run(
     println!(rt; "{title}")?;
     let heap = rt.alloc();
     let list = entries(heap, inputs, produced)?;
-    let names = ranks(heap, list.len())?;
+    let names: Vec<u32> = list.iter().map(|entry| entry.name).collect(heap)?;
     let circuit = Table::new(list.as_slice(), names.as_slice(), inputs, 1);
     let mut memory = vec![in heap; 0u32; list.len().saturating_mul(NUMBERS_PER_WIRE)]?;
     let mut room = vec![in heap; 0u32; calls.len().saturating_mul(ROOM)]?;
-    let mut answers = vec![in heap; Answer::Done; calls.len()]?;
+    let mut answers = vec![in heap; Ok(Answer::Done); calls.len()]?;
     match run_calls(
         &circuit,
         memory.as_mut_slice(),

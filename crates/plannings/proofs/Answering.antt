@@ -1,5 +1,5 @@
 -- The calls that write into lent room, in each of their endings.
-use Rattle.std.proofs.Common.{◌≡◌, ℕ, ◌+◌, ◌*◌, ◌<◌, ◌≤◌, Bool, false, cond, not, ◌&&◌, ltb, leb, List, length, get_or, take, drop, Some, None, Option, sym, refl, ap, ◌∙◌, subst, ap₂, ⊎_elim, arith}
+use Rattle.std.proofs.Common.{◌≡◌, ℕ, ◌+◌, ◌*◌, ◌<◌, ◌≤◌, Bool, false, cond, not, ◌&&◌, ltb, leb, List, length, get_or, take, drop, Some, None, Ok, Err, Option, sym, refl, ap, ◌∙◌, subst, ap₂, ⊎_elim, arith}
 use Rattle.std.proofs.lemmas.Bool.{cases_lt, lt-leb, lt-ltb, le-ltb}
 use Rattle.circuits.specs.Levels.{has}
 use Rattle.circuits.specs.declared.answer.Refusal.TheVariants as refusal
@@ -14,19 +14,22 @@ use Rattle.flows.specs.Numbers as numbers
 use Rattle.runs.specs.Law.{is_open, is_blocked, offered}
 use Rattle.runs.specs.Machine.{Standing, tells, Borders, RowsAt, Does}
 use Rattle.runs.specs.declared.calls.State.{State}
-use Rattle.runs.specs.declared.calls.State.TheVariants as state
 use Rattle.runs.specs.declared.calls.Call.TheVariants as call
 use Rattle.runs.specs.declared.calls.Answer.TheVariants as answer
-use Rattle.plannings.specs.Ready.{stage_of, standing_of, Staged, Ready, lent}
+use Rattle.plannings.specs.Ready.{state_of, stage_of, standing_of, Staged, lent}
+use Rattle.plannings.specs.Lending.{IsReady}
 use Rattle.plannings.specs.declared.kept.Kept.{Kept}
+use Rattle.plannings.specs.declared.lent.Lent.{Lent}
+use Rattle.plannings.specs.declared.kept.Phase.{Phase}
+use Rattle.plannings.specs.declared.kept.Phase.TheVariants as phase
 use Rattle.plannings.proofs.Counts.{count_few}
 use Rattle.plannings.proofs.Faults.{met, not_met, refuses, obeys, front_length, wrote_front}
 
--- the stage tells the state
-pub told_state : (m : List ℕ) (n : ℕ) (z : State) (h : ℕ) → tells (stage_of m n z h) ≡ z
-told_state m n state.Open h = refl
-told_state m n state.Closed h = refl
-told_state m n state.Blocked h = refl
+-- the stage tells the state of the phase
+pub told_phase : (m : List ℕ) (n : ℕ) (z : Phase) → tells (stage_of m n z) ≡ state_of z
+told_phase m n (phase.Open next) = refl
+told_phase m n phase.Closed = refl
+told_phase m n (phase.Blocked h) = refl
 
 -- past the last wire there is no border
 border_past : (m : List ℕ) (n w : ℕ) → n ≤ w → border (marks m n) w ≡ false
@@ -39,7 +42,16 @@ listed_border m n len before after l w =
     ∙ ⊎_elim (λ (k : w < n). ap (λ b. b && border (marks m n) w) (lt-ltb w n k))
     (λ (k : n ≤ w). ap (λ b. b && border (marks m n) w) (le-ltb w n k) ∙ sym (border_past m n w k)) (cases_lt w n)
 
-module _ (n : ℕ) (m : List ℕ) (q : Kept) (h : Ready n m q) (before : List ℕ) where
+module _ (p : Lent) (h : IsReady p) (before : List ℕ) where
+  abbrev n : ℕ
+  n = p.rows.wires
+
+  abbrev m : List ℕ
+  m = p.rows.memory.now
+
+  abbrev q : Kept
+  q = p.kept
+
   abbrev circuit : List Making
   circuit = circuit_of m n
 
@@ -49,39 +61,39 @@ module _ (n : ℕ) (m : List ℕ) (q : Kept) (h : Ready n m q) (before : List �
   abbrev told : State
   told = tells standing.stage
 
-  told_is : (z : State) → q.state ≡ z → told ≡ z
-  told_is z e = told_state m n q.state q.height ∙ e
+  told_is : (z : Phase) → q.phase ≡ z → told ≡ state_of z
+  told_is z e = told_phase m n q.phase ∙ ap state_of e
 
-  staged_is : (z : State) → q.state ≡ z → Staged z n m q.routes q.height
-  staged_is z e = subst (λ z. Staged z n m q.routes q.height) e h.staged
+  staged_is : (z : Phase) → q.phase ≡ z → Staged z n m q.routes
+  staged_is z e = subst (λ z. Staged z n m q.routes) e h.staged
 
   -- plan
   abbrev short : Option ℕ
   short = cond (ltb (length before) (routes_in m n)) (Some 11) None
 
-  module _ (e : q.state ≡ state.Closed) where
+  module _ (e : q.phase ≡ phase.Closed) where
     plan_tests : (o : Option ℕ) → short ≡ o → cond (is_open told) (Some 18) (cond (is_blocked told) (Some 19) short) ≡ o
     plan_tests o f =
-        not_met (is_open told) 18 (cond (is_blocked told) (Some 19) short) o (ap is_open (told_is state.Closed e))
-        (not_met (is_blocked told) 19 short o (ap is_blocked (told_is state.Closed e)) f)
+        not_met (is_open told) 18 (cond (is_blocked told) (Some 19) short) o (ap is_open (told_is phase.Closed e))
+        (not_met (is_blocked told) 19 short o (ap is_blocked (told_is phase.Closed e)) f)
 
     pub plan_done : q.routes ≤ length before → (k : ℕ) (after : List ℕ) → length after ≡ length before → Listing (border (marks m n)) n k before after
-        → Does circuit standing (lent (call.Plan (length before)) before (answer.Planned k) after) standing
+        → Does circuit standing (lent (call.Plan (length before)) before (Ok (answer.Planned k)) after) standing
     plan_done l k after same w =
-        obeys circuit standing (call.Plan (length before)) before refl (answer.Planned k) after standing
+        obeys circuit standing (call.Plan (length before)) before refl (Ok (answer.Planned k)) after standing
         (plan_tests None (not_met (ltb (length before) (routes_in m n)) 11 None None (le-ltb (length before) (routes_in m n) (omega (arith, h.routes))) refl)) (
           take k after,
-          ap answer.Planned (sym (front_length k after w.long)),
+          ap (λ n. Ok (answer.Planned n)) (sym (front_length k after w.long)),
           wrote_front k before after w.long same w.rest,
-          subst (λ z. Borders (stage_of m n z q.height) (take k after)) (sym e) (w.ascending, listed_border m n k before after w),
+          subst (λ z. Borders (stage_of m n z) (take k after)) (sym e) (w.ascending, listed_border m n k before after w),
           refl,
         )
 
     pub routes_fit : q.routes ≤ n
-    routes_fit = omega (arith, (staged_is state.Closed e).0, count_few (border (marks m n)) n)
+    routes_fit = omega (arith, (staged_is phase.Closed e).0, count_few (border (marks m n)) n)
 
     pub traceable : numbers.Ready n m
-    traceable = (staged_is state.Closed e).1
+    traceable = (staged_is phase.Closed e).1
 
   -- route
   abbrev narrow : Option ℕ
@@ -91,36 +103,36 @@ module _ (n : ℕ) (m : List ℕ) (q : Kept) (h : Ready n m q) (before : List �
   high i = cond (leb (offered told (routes_in m n)) i) (Some 13) narrow
 
   module _ (i : ℕ) where
-    module _ (z : State) (e : q.state ≡ z) (o : is_open z ≡ false) where
-      offered_is : (b : Bool) → leb (offered z q.routes) i ≡ b → leb (offered told (routes_in m n)) i ≡ b
+    module _ (z : Phase) (e : q.phase ≡ z) (o : is_open (state_of z) ≡ false) where
+      offered_is : (b : Bool) → leb (offered (state_of z) q.routes) i ≡ b → leb (offered told (routes_in m n)) i ≡ b
       offered_is b f = ap₂ (λ t k. leb (offered t k) i) (told_is z e) h.routes ∙ f
 
       past_open : (r : Option ℕ) → high i ≡ r → cond (is_open told) (Some 18) (high i) ≡ r
       past_open r f = not_met (is_open told) 18 (high i) r (ap is_open (told_is z e) ∙ o) f
 
-      past_high : i < offered z q.routes → (r : Option ℕ) → narrow ≡ r → cond (is_open told) (Some 18) (high i) ≡ r
+      past_high : i < offered (state_of z) q.routes → (r : Option ℕ) → narrow ≡ r → cond (is_open told) (Some 18) (high i) ≡ r
       past_high l r f =
-          past_open r (not_met (leb (offered told (routes_in m n)) i) 13 narrow r (offered_is false (lt-leb (offered z q.routes) i l)) f)
+          past_open r (not_met (leb (offered told (routes_in m n)) i) 13 narrow r (offered_is false (lt-leb (offered (state_of z) q.routes) i l)) f)
 
-      pub route_short : i < offered z q.routes → length before < n
-          → Does circuit standing (lent (call.Route i (length before)) before (answer.Refused refusal.MemoryTooShort) before) standing
+      pub route_short : i < offered (state_of z) q.routes → length before < n
+          → Does circuit standing (lent (call.Route i (length before)) before (Err refusal.MemoryTooShort) before) standing
       route_short l k =
           refuses circuit standing (call.Route i (length before)) before refl refusal.MemoryTooShort
           (past_high l (Some 11) (met (ltb (length before) (length circuit)) 11 None (lt-ltb (length before) (length circuit) (omega (arith, circuit_length m n h.room)))))
 
-      pub route_done : i < offered z q.routes → n ≤ length before → (len : ℕ) (after : List ℕ) → len ≤ n → length after ≡ length before
-          → drop len after ≡ drop len before → RowsAt (flow_in m n) (stage_of m n z q.height) i (take len after)
-          → Does circuit standing (lent (call.Route i (length before)) before (answer.Routed len) after) standing
+      pub route_done : i < offered (state_of z) q.routes → n ≤ length before → (len : ℕ) (after : List ℕ) → len ≤ n → length after ≡ length before
+          → drop len after ≡ drop len before → RowsAt (flow_in m n) (stage_of m n z) i (take len after)
+          → Does circuit standing (lent (call.Route i (length before)) before (Ok (answer.Routed len)) after) standing
       route_done l k len after low same rest row =
           let fits : len ≤ length after = omega arith in
-          obeys circuit standing (call.Route i (length before)) before refl (answer.Routed len) after standing
+          obeys circuit standing (call.Route i (length before)) before refl (Ok (answer.Routed len)) after standing
           (past_high l None (not_met (ltb (length before) (length circuit)) 11 None None (le-ltb (length before) (length circuit) (omega (arith, circuit_length m n h.room))) refl)) (
             take len after,
-            ap answer.Routed (sym (front_length len after fits)),
+            ap (λ n. Ok (answer.Routed n)) (sym (front_length len after fits)),
             wrote_front len before after fits same rest,
-            subst (λ z. RowsAt (flow_in m n) (stage_of m n z q.height) i (take len after)) (sym e) row,
+            subst (λ z. RowsAt (flow_in m n) (stage_of m n z) i (take len after)) (sym e) row,
             refl,
           )
 
-  pub barred_short : q.state ≡ state.Blocked → q.height ≤ n
-  barred_short e = (staged_is state.Blocked e).1
+  pub barred_short : (height : ℕ) → q.phase ≡ phase.Blocked height → height ≤ n
+  barred_short height e = (staged_is (phase.Blocked height) e).1

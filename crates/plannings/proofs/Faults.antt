@@ -1,5 +1,5 @@
 -- A call by its tests.
-use Rattle.std.proofs.Common.{◌≡◌, ℕ, ◌+◌, ◌-◌, ◌≤◌, Bool, true, false, cond, List, ◌++◌, length, take, drop, Some, None, Option, sym, refl, ap, ◌∙◌, subst, arith, length-take}
+use Rattle.std.proofs.Common.{◌≡◌, ℕ, ◌+◌, ◌-◌, ◌≤◌, Bool, true, false, cond, List, ◌++◌, length, take, drop, Some, None, Err, Option, Result, sym, refl, ap, ◌∙◌, subst, arith, length-take}
 use Rattle.std.proofs.lemmas.List.{take-append-drop, take-append-le, take_all}
 use Rattle.circuits.specs.Answers.{number_of, first_fault}
 use Rattle.circuits.specs.declared.answer.Refusal.{Refusal}
@@ -10,7 +10,6 @@ use Rattle.runs.specs.Law.{faults, Wrote}
 use Rattle.runs.specs.Machine.{tells, Standing, Obeys, Did, Does}
 use Rattle.runs.specs.declared.calls.Call.{Call}
 use Rattle.runs.specs.declared.calls.Answer.{Answer}
-use Rattle.runs.specs.declared.calls.Answer.TheVariants as answer
 
 pub met : (b : Bool) (n : ℕ) (o : Option ℕ) → b ≡ true → cond b (Some n) o ≡ Some n
 met b n o e = ap (λ b. cond b (Some n) o) e
@@ -23,12 +22,12 @@ module _ (c : List Making) (s : Standing) (a : Call) (before : List ℕ) (lent :
   fault = first_fault (faults c s.bars (tells s.stage) (value c s.flow) a)
 
   -- one that is refused leaves all as it was
-  pub refuses : (r : Refusal) → fault ≡ Some (number_of r) → Does c s (record { call = a; before = before; answer = answer.Refused r; after = before }) s
+  pub refuses : (r : Refusal) → fault ≡ Some (number_of r) → Does c s (record { call = a; before = before; answer = Err r; after = before }) s
   refuses r f =
-      let e : Event = record { call = a; before = before; answer = answer.Refused r; after = before } in
+      let e : Event = record { call = a; before = before; answer = Err r; after = before } in
       (lent, subst (λ o. Did o c s e s) (sym f) ((r, refl, refl, refl), refl))
 
-  pub obeys : (b : Answer) (after : List ℕ) (t : Standing) → fault ≡ None → Obeys c s a before b after t → Does c s (record { call = a; before = before; answer = b; after = after }) t
+  pub obeys : (b : Result Answer Refusal) (after : List ℕ) (t : Standing) → fault ≡ None → Obeys c s a before b after t → Does c s (record { call = a; before = before; answer = b; after = after }) t
   obeys b after t f h =
       let e : Event = record { call = a; before = before; answer = b; after = after } in
       (lent, subst (λ o. Did o c s e t) (sym f) h)

@@ -11,15 +11,17 @@ use Rattle.circuits.proofs.Plans.{produced_below}
 use Rattle.routes.specs.Routes.{Ordered, Route}
 use Rattle.routes.specs.Plans.{EarliestSmallest, Blocked}
 use Rattle.routes.proofs.Existence.{one_earliest_unless_blocked}
-use Rattle.runs.specs.Events.{Event}
+use Rattle.runs.specs.Events.{Event, History}
 use Rattle.runs.specs.Law.{faults}
-use Rattle.runs.specs.Told.{Told, counted, opened, StandApart, StepTold, DidTold, DoesTold, RunTold, new_told, then_told}
-use Rattle.runs.specs.Calls.{Came, Asked, refused_by, of_plan}
-use Rattle.runs.specs.Steps.{a_step, last_step, Ended, steps_made, SteppedOn}
+use Rattle.runs.specs.Told.{Told, counted, opened, StandApart, StepTold, ObeysTold, DidTold, DoesTold, RunTold, new_told, then_told}
+use Rattle.runs.specs.Calls.{Came, refused_by, answered_by}
+use Rattle.runs.specs.Steps.{a_step, last_step, Ended, steps_made}
 use Rattle.runs.specs.declared.calls.Answer.{Answer}
+use Rattle.runs.specs.declared.calls.Stepped.{Stepped}
 use Rattle.runs.specs.declared.steps.Steps.{Steps}
 use Rattle.runs.specs.declared.calls.Call.TheVariants as call
 use Rattle.runs.specs.declared.calls.Answer.TheVariants as answer
+use Rattle.runs.specs.declared.calls.Stepped.TheVariants as stepped
 use Rattle.runs.specs.declared.calls.State.TheVariants as state
 use Rattle.runs.proofs.Told.{bound, reach}
 use Rattle.plannings.specs.Running.{WritesFront, PlansFree}
@@ -59,15 +61,32 @@ module _ (c : List Making) (ordered : Ordered c) where
     pub many : length t.routes ≡ length the_plan.0
 
   -- a step of an open planning is obeyed
-  stepped : (s : Told) → s.state ≡ state.Open → (a : Answer) (t : Told) → DoesTold c s (a_step a) t → StepTold c s a t
-  stepped s o a t d =
-      (subst (λ z. DidTold (first_fault (faults c s.bars z (counted s.state s.routes) call.Step)) c s (a_step a) t) o d.1).0
+  open_step : (s : Told) → s.state ≡ state.Open → (a : Result Stepped Refusal) (t : Told) → DoesTold c s (a_step a) t
+      → (g : Stepped) × (answered_by answer.Stepped a ≡ Ok (answer.Stepped g)) × StepTold c s g t
+  open_step s o a t d =
+      let e : ObeysTold c s call.Step [] (answered_by answer.Stepped a) [] t =
+      subst (λ z. DidTold (first_fault (faults c s.bars z (counted s.state s.routes) call.Step)) c s (a_step a) t) o d.1 in
+      (e.0, e.1, e.2)
 
-  grew : (k : ℕ) (t : Told) → RunTold c (replicate k (a_step answer.Grown)) t → Grew k t
+  stepped_so : (s : Told) → s.state ≡ state.Open → (g : Stepped) (t : Told) → DoesTold c s (a_step (Ok g)) t → StepTold c s g t
+  stepped_so s o g t d =
+      let e : (x : Stepped) × (◌≡◌ {A = Result Answer Refusal} (Ok (answer.Stepped g)) (Ok (answer.Stepped x))) × StepTold c s x t = open_step s o (Ok g) t d in
+      subst (λ x. StepTold c s x t) (sym (same_step g e.0 e.1)) e.2
+    where
+      same_step : (g x : Stepped) → ◌≡◌ {A = Result Answer Refusal} (Ok (answer.Stepped g)) (Ok (answer.Stepped x)) → g ≡ x
+      same_step g x e = cc
+
+  not_refused : (s : Told) → s.state ≡ state.Open → (x : Refusal) (t : Told) → DoesTold c s (a_step (Err x)) t → ⊥
+  not_refused s o x t d = differ x (open_step s o (Err x) t d).0 (open_step s o (Err x) t d).1
+    where
+      differ : (x : Refusal) (g : Stepped) → ◌≡◌ {A = Result Answer Refusal} (Err x) (Ok (answer.Stepped g)) → ⊥
+      differ x g e = let z : ◌≡◌ {A = ℕ} 0 1 = cc in omega arith
+
+  grew : (k : ℕ) (t : Told) → RunTold c (replicate k (a_step (Ok stepped.Grown))) t → Grew k t
   grew zero t new_told = record { open_now = refl; no_bars = refl; many = refl; apart = (tt, tt) }
   grew (suc k) t (then_told {s = s} r d) =
       let g : Grew k s = grew k s r in
-      let e = stepped s g.open_now answer.Grown t d in
+      let e = stepped_so s g.open_now stepped.Grown t d in
       let now_is = e.1.3 in
       record {
         open_now = ap (λ t. t.state) now_is;
@@ -85,14 +104,13 @@ module _ (c : List Making) (ordered : Ordered c) where
         bound c ordered (λ w. false) the_plan.0 t.routes the_plan.1.cheapest (subst (λ b. StandApart c b t.routes) g.no_bars g.apart),
       )
 
-  closes : (k : ℕ) (l : Option Answer) (t : Told) → Ended (length c + 1) (record { grown = k; last = l }) l → RunTold c (last_step l ++ replicate k (a_step answer.Grown)) t → Closes t
+  closes : (k : ℕ) (l : Option (Result Stepped Refusal)) (t : Told) → Ended (length c + 1) (record { grown = k; last = l }) l → RunTold c (last_step l ++ replicate k (a_step (Ok stepped.Grown))) t → Closes t
   closes k None t e r =
       absurd (omega (arith, few k t (grew k t r), plan_short c 0 the_plan.0 the_plan.1.cheapest.fits.planned (omega arith)))
-  closes k (Some answer.Done) t e (then_told {s = s} r d) = absurd (stepped s (grew k s r).open_now answer.Done t d)
-  closes k (Some answer.Grown) t e (then_told {s = s} r d) = absurd (true≢false e)
-  closes k (Some answer.Closed) t e (then_told {s = s} r d) =
+  closes k (Some (Ok stepped.Grown)) t e (then_told r d) = absurd (e refl)
+  closes k (Some (Ok stepped.Closed)) t e (then_told {s = s} r d) =
       let g : Grew k s = grew k s r in
-      let w = stepped s g.open_now answer.Closed t d in
+      let w = stepped_so s g.open_now stepped.Closed t d in
       record {
         closed_now = ap (λ t. t.state) w.2;
         no_bars = ap (λ t. t.bars) w.2 ∙ g.no_bars;
@@ -100,25 +118,23 @@ module _ (c : List Making) (ordered : Ordered c) where
             ∙ reach c ordered (λ w. false) the_plan.0 s.routes the_plan.1.cheapest (subst (λ b. StandApart c b s.routes) g.no_bars g.apart)
             (subst (λ b. (qs : List (List ℕ)) → StandApart c b qs → length qs ≤ length s.routes) g.no_bars w.1);
       }
-  closes k (Some answer.Blocked) t e (then_told {s = s} r d) =
+  closes k (Some (Ok stepped.Blocked)) t e (then_told {s = s} r d) =
       let g : Grew k s = grew k s r in
-      let w = stepped s g.open_now answer.Blocked t d in
+      let w = stepped_so s g.open_now stepped.Blocked t d in
       absurd (not_blocked c (w.0, w.1, subst (λ b. AllByRecursion (λ v. b v ≡ true) w.0) g.no_bars w.2))
-  closes k (Some (answer.Planned n)) t e (then_told {s = s} r d) = absurd (stepped s (grew k s r).open_now (answer.Planned n) t d)
-  closes k (Some (answer.Routed n)) t e (then_told {s = s} r d) = absurd (stepped s (grew k s r).open_now (answer.Routed n) t d)
-  closes k (Some (answer.Refused x)) t e (then_told {s = s} r d) = absurd (stepped s (grew k s r).open_now (answer.Refused x) t d)
+  closes k (Some (Err x)) t e (then_told {s = s} r d) = absurd (not_refused s (grew k s r).open_now x t d)
 
   module _ (before : List ℕ) (r : Result ℕ Refusal) (after : List ℕ) where
-    err_number : (r : Result ℕ Refusal) (x : Refusal) (n : ℕ) → number_of x ≡ n → of_plan r ≡ answer.Refused x → refused_by r ≡ Some n
+    err_number : (r : Result ℕ Refusal) (x : Refusal) (n : ℕ) → number_of x ≡ n → answered_by answer.Planned r ≡ Err x → refused_by r ≡ Some n
     err_number (Ok k) x n e f = let z : ◌≡◌ {A = ℕ} 0 1 = cc in absurd (omega arith)
     err_number (Err y) x n e f = let same : y ≡ x = cc in ap (λ y. Some (number_of y)) same ∙ ap Some e
 
-    ok_count : (r : Result ℕ Refusal) (n : ℕ) → of_plan r ≡ answer.Planned n → r ≡ Ok n
+    ok_count : (r : Result ℕ Refusal) (n : ℕ) → answered_by answer.Planned r ≡ Ok (answer.Planned n) → r ≡ Ok n
     ok_count (Ok k) n f = let same : k ≡ n = cc in ap Ok same
     ok_count (Err y) n f = let z : ◌≡◌ {A = ℕ} 0 1 = cc in absurd (omega arith)
 
-    abbrev event : Event
-    event = record { call = call.Plan (length before); before = before; answer = of_plan r; after = after }
+    abbrev pub event : Event
+    event = record { call = call.Plan (length before); before = before; answer = answered_by answer.Planned r; after = after }
 
     -- the plan call of a planning that is closed
     plan_written : (t : Told) → Closes t → DoesTold c t event t
@@ -132,20 +148,19 @@ module _ (c : List Making) (ordered : Ordered c) where
         decided true e = (err_number r e.0.0 11 e.0.1 e.0.2, e.0.3)
         decided false e =
             let same : e.0 ≡ the_plan.0 = the_plan.2 e.0 (subst (λ b. EarliestSmallest c b e.0) k.no_bars e.3) in (
-              ok_count r (length the_plan.0) (e.1 ∙ ap (λ p. answer.Planned (length p)) same),
+              ok_count r (length the_plan.0) (e.1 ∙ ap (λ p. Ok (answer.Planned (length p))) same),
               e.2.1 ∙ ap (λ p. p ++ drop (length p) before) same,
             )
 
     -- steps to the end of a new planning, and then its plan
-    pub finished : (this that : Told → Type 0) (s : Steps) (d : List Making) → this (opened (λ w. false)) → SteppedOn c this (length c + 1) s d that
-        → Asked c that (call.Plan (length before)) before (of_plan r) after
-        → PlansFree c false before r after
-    finished this that s d new on asked =
-        let end : Came c that (steps_made s ++ []) = on.came [] (opened (λ w. false), new, new_told) in (
+    pub finished : (this that : Told → Type 0) (s : Steps) → this (opened (λ w. false)) → Ended (length c + 1) s s.last
+        → ((h : History) → Came c this h → Came c that (steps_made s ++ h)) → ((t : Told) → that t → DoesTold c t event t) → PlansFree c false before r after
+    finished this that s new ended came asked =
+        let end : Came c that (steps_made s ++ []) = came [] (opened (λ w. false), new, new_told) in (
           the_plan.0,
           the_plan.1,
           plan_written end.0
-              (closes s.grown s.last end.0 on.ended (subst (λ h. RunTold c h end.0) (append-nil (steps_made s)) end.2))
+              (closes s.grown s.last end.0 ended (subst (λ h. RunTold c h end.0) (append-nil (steps_made s)) end.2))
               (asked end.0 end.1),
         )
 

@@ -13,8 +13,8 @@ use Rattle.rows.specs.Fed.{Loaded}
 use Rattle.flows.specs.Kept.{Flows}
 use Rattle.flows.specs.Numbers as numbers
 use Rattle.flows.proofs.Writes.{along_passes}
-use Rattle.runs.specs.declared.calls.State.{State}
-use Rattle.runs.specs.declared.calls.State.TheVariants as state
+use Rattle.plannings.specs.declared.kept.Phase.{Phase}
+use Rattle.plannings.specs.declared.kept.Phase.TheVariants as phase
 use Rattle.plannings.specs.Ready.{Staged, Ready}
 use Rattle.plannings.specs.declared.kept.Kept.{Kept}
 
@@ -83,10 +83,10 @@ module _ {X : Type 0} (h : ∥ X ∥₁) where
               };
         }
 
-    staged : (z : State) (k r : ℕ) → (X → Staged z n m k r) → Staged z n m k r
-    staged state.Open k r f = λ l b. never (λ x. f x l b)
-    staged state.Closed k r f = (∥∥₁_elim h (hlevel props) (λ x. (f x).0), traceable (λ x. (f x).1))
-    staged state.Blocked k r f = (∥∥₁_elim h (hlevel props) (λ x. (f x).0), ∥∥₁_elim h (hlevel props) (λ x. (f x).1))
+    staged : (z : Phase) (k : ℕ) → (X → Staged z n m k) → Staged z n m k
+    staged (phase.Open next) k f = λ l b. never (λ x. f x l b)
+    staged phase.Closed k f = (∥∥₁_elim h (hlevel props) (λ x. (f x).0), traceable (λ x. (f x).1))
+    staged (phase.Blocked r) k f = (∥∥₁_elim h (hlevel props) (λ x. (f x).0), ∥∥₁_elim h (hlevel props) (λ x. (f x).1))
 
 pub ready_of : (n : ℕ) (m : List ℕ) (q : Kept) → ∥ Ready n m q ∥₁ → Ready n m q
 ready_of n m q h =
@@ -97,5 +97,5 @@ ready_of n m q h =
       flows = flows h n m (λ r. r.flows);
       routes = ∥∥₁_elim h (hlevel props) (λ r. r.routes);
       bars = ∥∥₁_elim h (hlevel props) (λ r. r.bars);
-      staged = staged h n m q.state q.routes q.height (λ r. r.staged);
+      staged = staged h n m q.phase q.routes (λ r. r.staged);
     }

@@ -1,3 +1,4 @@
 pub mod Ready
+pub mod Lending
 pub mod Searching
 pub mod Running

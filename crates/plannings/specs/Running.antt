@@ -9,7 +9,7 @@ use Rattle.runs.specs.declared.calls.Call.{Call}
 use Rattle.runs.specs.declared.calls.Answer.{Answer}
 
 -- the tests of a run over n wires, in this order: 11 a memory of less than 24 numbers for each wire, and then those of any run
-abbrev pub planning_faults : ℕ → List ℕ → List Call → List ℕ → List Answer → List (Bool × ℕ)
+abbrev pub planning_faults : ℕ → List ℕ → List Call → List ℕ → List (Result Answer Refusal) → List (Bool × ℕ)
 planning_faults n memory calls room answers = (nat_lt (length memory) (24 * n), 11) ∷ run_faults calls room answers
 
 -- these at the front of the room, and how many they are; or, where something is too short, refused by 11 and the room as it was

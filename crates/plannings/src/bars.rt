@@ -1,90 +1,77 @@
-ghost use Rattle.std.specs.Prelude.{◌≡◌, ◌<◌};
-ghost use Rattle.circuits.specs.Levels.{produced, produced_at};
-ghost use Rattle.rows.specs.Rows.{Room, written};
-ghost use Rattle.rows.specs.Held.{circuit_of, bars_of};
+ghost use Rattle.std.specs.Prelude.{◌≡◌, ◌<◌, if◌then◌else◌};
+ghost use Rattle.circuits.specs.Levels.{produced_at};
+ghost use Rattle.rows.specs.Rows.{SameRows, written};
+ghost use Rattle.rows.specs.Held.{circuit_in, bars_in};
 ghost use Rattle.flows.specs.Stacks.{Emptied};
-ghost use Rattle.runs.specs.Calls.{of_bar};
+ghost use Rattle.runs.specs.Calls.{answered_by};
 ghost use Rattle.runs.specs.declared.calls.Call.TheVariants.{Bar, Unbar};
-ghost use Rattle.plannings.specs.Ready.{Ready, Turned, bare};
+ghost use Rattle.plannings.specs.Ready.{bare};
+ghost use Rattle.plannings.specs.Lending.{IsReady, Turns};
 
 use crate::kept::Kept;
+use crate::lent::Lent;
 use circuits::answer::Refusal;
-use circuits::making::Making;
 use flows::grow::drop_routes;
-use rows::held::held;
-use rows::rows::{BARS, get, put};
-use runs::calls::State;
+use rows::rows::Row;
+use runs::calls::Answer;
 
-const BARRED: u32 = 1;
-
-const NOT_BARRED: u32 = 0;
-
-// Whether a wire made so is produced.
-fn is_made(how: Making) -> bool
-    ensures { result ≡ produced how }
-{
-    match how {
-        Making::Input | Making::Constant(_) => false,
-        _ => true,
+impl<'a> Lent<'a> {
+    // Whether the rank is that of a produced wire.
+    fn is_produced(&self, rank: u32) -> bool
+        ensures { result ≡ produced_at (circuit_in self.now.rows) rank }
+    {
+        let wire = rank as usize;
+        wire < self.rows.wires && self.rows.making(wire).is_produced()
     }
-}
 
-// Whether the rank is that of a produced wire.
-pub fn is_produced(memory: &[u32], wires: usize, rank: u32) -> bool
-    requires room { Room wires memory.now }
-    ensures { result ≡ produced_at (circuit_of memory.now wires) rank }
-{
-    let wire = rank as usize;
-    wire < wires && is_made(held(memory, wires, wire))
-}
-
-// Whether the wire is barred.
-pub fn is_barred(memory: &[u32], wires: usize, rank: u32) -> bool
-    requires room { Room wires memory.now }
-    ensures { result ≡ bars_of memory.now wires rank }
-{
-    let wire = rank as usize;
-    wire < wires && get(memory, wires, BARS, wire) > 0
-}
-
-// Sets a bar or lifts it, and drops all routes.
-fn rebar(memory: &mut [u32], wires: usize, wire: usize, flag: u32)
-    requires room { Room wires memory.old }
-    requires wire { wire < wires }
-    ensures { Emptied wires (written memory.old wires 3 wire flag) memory.new }
-{
-    put(memory, wires, BARS, wire, flag);
-    drop_routes(memory, wires);
-}
-
-// Bars a wire.
-pub fn bar(memory: &mut [u32], wires: usize, kept: &mut Kept, rank: u32) -> Result<(), Refusal>
-    requires ready { Ready wires memory.old kept.old }
-    ensures { Turned wires memory.old kept.old (bare (Bar rank) (of_bar result)) memory.new kept.new }
-{
-    if !is_produced(memory, wires, rank) {
-        return Err(Refusal::BadRank);
+    // Whether the wire is barred.
+    pub fn is_barred(&self, rank: u32) -> bool
+        ensures { result ≡ bars_in self.now.rows rank }
+    {
+        let wire = rank as usize;
+        wire < self.rows.wires && self.rows.get(Row::Bars, wire) > 0
     }
-    if is_barred(memory, wires, rank) {
-        return Err(Refusal::AlreadyBarred);
-    }
-    rebar(memory, wires, rank as usize, BARRED);
-    *kept = Kept::opened(kept.bars + 1);
-    Ok(())
-}
 
-// Lifts the bar of a wire.
-pub fn unbar(memory: &mut [u32], wires: usize, kept: &mut Kept, rank: u32) -> Result<(), Refusal>
-    requires ready { Ready wires memory.old kept.old }
-    ensures { Turned wires memory.old kept.old (bare (Unbar rank) (of_bar result)) memory.new kept.new }
-{
-    if !is_produced(memory, wires, rank) {
-        return Err(Refusal::BadRank);
+    // Sets a bar or lifts it, and drops all routes. The flag is what is written, and not a step to run.
+    fn rebar(&mut self, wire: usize, barred: bool)
+        requires { wire < self.old.rows.wires }
+        ensures same { SameRows self.old.rows self.new.rows }
+        ensures emptied { Emptied self.old.rows.wires (written self.old.rows.memory.now self.old.rows.wires 3 wire (if barred then 1 else 0)) self.new.rows.memory.now }
+        ensures kept { self.new.kept ≡ self.old.kept }
+    {
+        self.rows.put(Row::Bars, wire, u32::from(barred));
+        drop_routes(&mut self.rows);
     }
-    if !is_barred(memory, wires, rank) {
-        return Err(Refusal::NotBarred);
+
+    // Bars a wire. Not one function with `unbar`: that would ask by a flag for the other test, the other refusal and the other count.
+    pub fn bar(&mut self, rank: u32) -> Result<(), Refusal>
+        requires { IsReady self.old }
+        ensures { Turns self.old (bare (Bar rank) (answered_by (λ u. Answer.Done) result)) self.new }
+    {
+        if !self.is_produced(rank) {
+            return Err(Refusal::BadRank);
+        }
+        if self.is_barred(rank) {
+            return Err(Refusal::AlreadyBarred);
+        }
+        self.rebar(rank as usize, true);
+        self.kept = Kept::opened(self.kept.bars + 1);
+        Ok(())
     }
-    rebar(memory, wires, rank as usize, NOT_BARRED);
-    *kept = Kept::opened(kept.bars - 1);
-    Ok(())
+
+    // Lifts the bar of a wire.
+    pub fn unbar(&mut self, rank: u32) -> Result<(), Refusal>
+        requires { IsReady self.old }
+        ensures { Turns self.old (bare (Unbar rank) (answered_by (λ u. Answer.Done) result)) self.new }
+    {
+        if !self.is_produced(rank) {
+            return Err(Refusal::BadRank);
+        }
+        if !self.is_barred(rank) {
+            return Err(Refusal::NotBarred);
+        }
+        self.rebar(rank as usize, false);
+        self.kept = Kept::opened(self.kept.bars - 1);
+        Ok(())
+    }
 }

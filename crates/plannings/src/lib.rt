@@ -29,21 +29,22 @@ mod route;
 mod step;
 
 // Makes a planning of the circuit over the memory, and runs the calls on it, each call of plan and route lent the next part of the room. It
-// hands back each answer.
+// hands back each answer. The memory, the room and the answers are lent, since planning takes nothing from the heap.
 pub fn run_calls<C: Circuit>(
     circuit: &C,
     memory: &mut [u32],
     calls: &[Call],
     room: &mut [u32],
-    answers: &mut [Answer],
+    answers: &mut [Result<Answer, Refusal>],
 ) -> Result<(), Refusal>
-    ensures refused { refused_by result ≡ first_fault (planning_faults (width (C.Circuit.meaning circuit.now)) memory.old calls.now room.old answers.old) }
+    ensures refused { refused_by result ≡ first_fault (planning_faults (width (C.meaning circuit.now)) memory.old calls.now room.old answers.old) }
     ensures unaltered { IfRefused result ((memory.new ≡ memory.old) × (room.new ≡ room.old) × (answers.new ≡ answers.old)) }
-    ensures past { drop (24 * width (C.Circuit.meaning circuit.now)) memory.new ≡ drop (24 * width (C.Circuit.meaning circuit.now)) memory.old }
+    ensures past { drop (24 * width (C.meaning circuit.now)) memory.new ≡ drop (24 * width (C.meaning circuit.now)) memory.old }
     ensures rest { drop (rooms calls.now) room.new ≡ drop (rooms calls.now) room.old }
-    ensures lawful { IfObeyed result (LawfulRun (C.Circuit.meaning circuit.now).makings (ran calls.now answers.new room.old room.new)) }
+    ensures lawful { IfObeyed result (LawfulRun (C.meaning circuit.now).makings (ran calls.now answers.new room.old room.new)) }
 {
     let wires = circuit.wires() as usize;
+    // The tests of `run` come before a planning is made as well, since making one writes the memory.
     if memory.len() < ROWS * wires {
         return Err(Refusal::MemoryTooShort);
     }
@@ -56,22 +57,22 @@ pub fn run_calls<C: Circuit>(
 
 // Steps a new planning of so many wires to its end, and writes the earliest smallest plan at the front of the room.
 pub fn finish<P: Planner>(planning: &mut P, wires: u32, room: &mut [u32]) -> Result<usize, Refusal>
-    ensures { Ordered (P.Planner.circuit planning.old) → length (P.Planner.circuit planning.old) ≡ wires → P.Planner.shows planning.old (opened (λ w. false)) → PlansFree (P.Planner.circuit planning.old) false room.old result room.new }
+    ensures { Ordered (P.circuit planning.old) → length (P.circuit planning.old) ≡ wires → P.shows planning.old (opened (λ w. false)) → PlansFree (P.circuit planning.old) false room.old result room.new }
 {
     // No smallest plan has more wires than the circuit, so the last of these steps closes.
     step_on(planning, wires as usize + 1);
     planning.plan(room)
 }
 
-// Plans a circuit without bars: steps a new planning to its end, and writes the earliest smallest plan at the front of the room.
+// Plans a circuit without bars: steps a new planning to its end, and writes the earliest smallest plan at the front of the room. Memory and room are lent as above.
 pub fn plan_circuit<C: Circuit>(
     circuit: &C,
     memory: &mut [u32],
     room: &mut [u32],
 ) -> Result<usize, Refusal>
-    ensures planned { PlansCircuit (C.Circuit.meaning circuit.now) (length memory.old) room.old result room.new }
-    ensures past { drop (24 * width (C.Circuit.meaning circuit.now)) memory.new ≡ drop (24 * width (C.Circuit.meaning circuit.now)) memory.old }
-    ensures unaltered { length memory.old < 24 * width (C.Circuit.meaning circuit.now) → memory.new ≡ memory.old }
+    ensures planned { PlansCircuit (C.meaning circuit.now) (length memory.old) room.old result room.new }
+    ensures past { drop (24 * width (C.meaning circuit.now)) memory.new ≡ drop (24 * width (C.meaning circuit.now)) memory.old }
+    ensures unaltered { length memory.old < 24 * width (C.meaning circuit.now) → memory.new ≡ memory.old }
 {
     let wires = circuit.wires() as usize;
     if ROWS * wires > memory.len() {

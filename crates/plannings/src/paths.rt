@@ -1,51 +1,40 @@
-ghost use Rattle.rows.specs.Rows.{Room};
-ghost use Rattle.plannings.specs.Searching.{BarredEnd, ResidualEnd};
+ghost use Rattle.rows.specs.Rows.{SameRows};
+ghost use Rattle.plannings.specs.Searching.{Searched};
+ghost use Rattle.graphs.specs.Meanings.{residual_graph, barred_graph};
 
 use graphs::barred::Barred;
 use graphs::residual::Residual;
-use search::{Outcome, find, find_or_exhaust};
+use rows::rows::Rows;
+use search::{Found, find, find_or_exhaust};
 
-// Looks for a route of barred wires, and answers how long it is.
-pub fn barred_path(memory: &mut [u32], wires: usize) -> Option<u32>
-    requires room { Room wires memory.old }
-    ensures { BarredEnd wires memory.old memory.new result }
+// Looks for a route of barred wires. The rows are of few enough wires and long enough for a search, so that neither refusal comes.
+pub fn barred_path(rows: &mut Rows) -> Option<Found>
+    ensures same { SameRows rows.old rows.new }
+    ensures searched { Searched (barred_graph rows.old.wires) rows.old.memory.now rows.new.memory.now result }
 {
-    let Ok(graph) = Barred::new(wires as u32) else {
+    let Ok(graph) = Barred::new(rows.wires as u32) else {
         unreachable()
     };
-    match find(&graph, memory) {
-        Ok(Outcome::Found { length, .. }) => Some(length),
-        Ok(Outcome::Nothing) => None,
-        Err(_) => unreachable(),
-    }
+    let Ok(found) = find(&graph, rows.memory) else {
+        unreachable()
+    };
+    found
 }
 
-// Looks for a path for one unit more, with no place marked before.
-pub fn first_path(memory: &mut [u32], wires: usize) -> Option<(u32, u32)>
-    requires room { Room wires memory.old }
-    ensures { ResidualEnd wires memory.old memory.new result }
+// Looks for a path for one unit more, going on from a place number with the marks that are there; with no route yet, from the start.
+// Not one function with the first: that has one search for its graph, and this one two.
+pub fn unit_path(rows: &mut Rows, routes: usize, from: u32) -> Option<Found>
+    ensures same { SameRows rows.old rows.new }
+    ensures searched { Searched (residual_graph rows.old.wires) rows.old.memory.now rows.new.memory.now result }
 {
-    let Ok(graph) = Residual::new(wires as u32) else {
+    let Ok(graph) = Residual::new(rows.wires as u32) else {
         unreachable()
     };
-    match find(&graph, memory) {
-        Ok(Outcome::Found { length, next }) => Some((length, next)),
-        Ok(Outcome::Nothing) => None,
-        Err(_) => unreachable(),
-    }
-}
-
-// Looks for a path for one unit more, and goes on with the marks that are there.
-pub fn further_path(memory: &mut [u32], wires: usize, from: u32) -> Option<(u32, u32)>
-    requires room { Room wires memory.old }
-    ensures { ResidualEnd wires memory.old memory.new result }
-{
-    let Ok(graph) = Residual::new(wires as u32) else {
-        unreachable()
+    let ended = if routes == 0 {
+        find(&graph, rows.memory)
+    } else {
+        find_or_exhaust(&graph, rows.memory, from)
     };
-    match find_or_exhaust(&graph, memory, from) {
-        Ok(Outcome::Found { length, next }) => Some((length, next)),
-        Ok(Outcome::Nothing) => None,
-        Err(_) => unreachable(),
-    }
+    let Ok(found) = ended else { unreachable() };
+    found
 }

@@ -1,4 +1,3 @@
-mod Names
-mod Parts
+mod Front
 mod Tables
 mod Readings

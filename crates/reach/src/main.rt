@@ -2,9 +2,10 @@
 #![tactic(auto)]
 
 use circuits::answer::Refusal;
-use listed::{CHOSEN, GOAL, Listed};
+use listed::Flag::{self, Chosen, Goal, Plain};
+use listed::Listed;
 use search::graph::Graph;
-use search::{Outcome, find, find_further, find_or_exhaust, mark_reached};
+use search::{Found, find, find_further, find_or_exhaust, mark_reached};
 use std::alloc::{AllocError, Global};
 use std::io;
 
@@ -17,7 +18,9 @@ const MARKS: usize = 30;
 
 const STACK: usize = 39;
 
-const FLAGS: [u32; 9] = [CHOSEN, 0, 0, 0, GOAL, CHOSEN, 0, GOAL, 0];
+const FLAGS: [Flag; 9] = [
+    Chosen, Plain, Plain, Plain, Goal, Chosen, Plain, Goal, Plain,
+];
 
 // The last one is past the targets, so it counts as their end.
 const OFFSETS: [u32; 10] = [0, 2, 3, 5, 5, 6, 7, 8, 10, 99];
@@ -27,22 +30,20 @@ const STEPS: [u32; 11] = [1, 2, 3, 3, 4, 2, 6, 7, 6, 77, 0];
 
 // The graph in the front of the memory, and as many zeros behind it as the search needs.
 fn drawn(heap: Global) -> Result<Vec<u32>, AllocError> {
-    let mut memory = Vec::new(heap);
-    for number in FLAGS.iter().chain(OFFSETS.iter()).chain(STEPS.iter()) {
-        memory.push(*number)?;
-    }
-    for _ in 0..3 * PLACES {
-        memory.push(0)?;
-    }
-    Ok(memory)
+    FLAGS
+        .iter()
+        .map(|flag| *flag as u32)
+        .chain(OFFSETS)
+        .chain(STEPS)
+        .chain([0; 3 * PLACES as usize])
+        .collect(heap)
 }
 
 fn print_marked(rt: &HostRuntime, memory: &[u32]) -> io::Result<()> {
     print!(rt; "Reached:")?;
-    for (place, mark) in memory.iter().skip(MARKS).take(PLACES as usize).enumerate() {
-        if *mark != 0 {
-            print!(rt; " {place}")?;
-        }
+    let marks = memory.iter().skip(MARKS).take(PLACES as usize);
+    for (place, _) in marks.enumerate().filter(|(_, mark)| **mark != 0) {
+        print!(rt; " {place}")?;
     }
     println!(rt; "")
 }
@@ -51,19 +52,19 @@ fn print_marked(rt: &HostRuntime, memory: &[u32]) -> io::Result<()> {
 fn print_outcome(
     rt: &HostRuntime,
     name: &str,
-    outcome: Result<Outcome, Refusal>,
+    outcome: Result<Option<Found>, Refusal>,
     memory: &[u32],
 ) -> io::Result<u32> {
     print!(rt; "{name}:")?;
     match outcome {
-        Ok(Outcome::Found { length, next }) => {
+        Ok(Some(Found { length, next })) => {
             for place in memory.iter().skip(STACK).take(length as usize) {
                 print!(rt; " {place}")?;
             }
             println!(rt; "")?;
             Ok(next)
         }
-        Ok(Outcome::Nothing) => {
+        Ok(None) => {
             println!(rt; " no goal")?;
             Ok(PLACES)
         }

@@ -1,10 +1,8 @@
 -- What the answer to a text says.
-use Rattle.std.proofs.Common.{◌≡◌, ℕ, zero, suc, ◌+◌, ◌≤◌, Bool, true, false, cond, not, ◌&&◌, eqb, ltb, leb, List, [], ◌∷◌, ◌++◌, length, take, Some, Ok, Err, Option, Result, sym, refl, ap, ◌∙◌, subst, ⊎_elim, arith}
-use Rattle.std.proofs.lemmas.List.{take_at, take_all, length-map}
-use Rattle.std.proofs.lemmas.Bool.{cases_lt, cond-true}
+use Rattle.std.proofs.Common.{◌≡◌, ℕ, zero, suc, ◌+◌, ◌≤◌, Bool, true, false, cond, not, ◌&&◌, eqb, ltb, leb, List, [], ◌∷◌, ◌++◌, length, take, Some, Ok, Err, Result, sym, refl, ap, ◌∙◌, subst, arith}
+use Rattle.std.proofs.lemmas.List.{take_at}
 use Rattle.circuits.proofs.TableTests.{fits_from_kept}
-use Rattle.circuits.specs.Tables.{Kept, tabled, lone, table_fits}
-use Rattle.circuits.specs.Circuits.{Meaning, width}
+use Rattle.circuits.specs.Tables.{Kept, tabled}
 use Rattle.circuits.specs.declared.making.Entry.{Entry}
 use Rattle.circuits.specs.declared.answer.Refusal.TheVariants as refusal
 use Rattle.tokens.specs.declared.fault.Fault.{Fault}
@@ -20,7 +18,7 @@ use Rattle.tokens.proofs.Readings.{err_ok, ok_same, then_inv}
 use Rattle.tokens.proofs.Counts.{left, start_counts, gate_counts, header_counts, none_counts}
 use Rattle.tokens.proofs.Inside.{Fine, fault_fine, cond_fine, then_fine, Stops, Lies, token_fine, AllIn, GateIn, gate_fine, start_fine, HeaderIn, header_fine}
 use Rattle.reading.specs.Texts.{made, suits, input_ok, inputs_ok, making_of, value_at, make, after, line_makes, gate, gate_in, line_in, next_gate, gates_at, close, inputs, body_at, Outcome, untouched, cleared, filled, read_body, read_on, read, answer, circuit_of, table_after, ranks_after, ranks_of}
-use Rattle.reading.specs.Accepted.{Accepted, Refused, Answered, or_lone, Gives}
+use Rattle.reading.specs.Accepted.{Accepted, Answered}
 use Rattle.reading.proofs.Laws.{Sound}
 use Rattle.reading.proofs.Heads.{Bounds, bounds}
 use Rattle.reading.proofs.Inputs.{ranks_length}
@@ -156,32 +154,3 @@ told_answer text (filled h es) l table table' ranks ranks' a b =
 pub answered : (text : List ℕ) (limit rows names : ℕ) (r : Result Header Fault) (table table' : List Entry) (ranks ranks' : List ℕ) → r ≡ answer (read text limit rows names) → table' ≡ table_after (read text limit rows names) table → ranks' ≡ ranks_after (read text limit rows names) ranks → Answered text (circuit_of (read text limit rows names)) r table' ranks'
 answered text limit rows names r table table' ranks ranks' e a b =
     subst (λ x. Answered text (circuit_of (read text limit rows names)) x table' ranks') (sym e) (told_answer text (read text limit rows names) (told_read text rows names limit) table table' ranks ranks' a b)
-
-reaches : {X : Type 0} (xs : List X) (n : ℕ) → length (take n xs) ≡ n → n ≤ length xs
-reaches xs n e = ⊎_elim (λ lt. absurd (omega (arith, e, ap length (take_all n xs (omega arith))))) (λ ge. ge) (cases_lt (length xs) n)
-
-module _ (text : List ℕ) (m : Option Meaning) where
-  module _ (h : Header) (table : List Entry) (ranks : List ℕ) (a : Accepted text m h (take h.wires table) (take h.wires ranks)) where
-    pub table_reaches : h.wires ≤ length table
-    table_reaches = reaches table h.wires a.wires
-
-    pub ranks_reach : h.wires ≤ length ranks
-    ranks_reach = reaches ranks h.wires (a.kept.many ∙ a.wires)
-
-    -- the constructor of tables gives the circuit that the text means
-    module _ (x : Meaning) (e : x ≡ cond (table_fits (take h.wires table) (take h.wires ranks) h.inputs h.outputs) (tabled (take h.wires table) h.inputs h.outputs) lone) where
-      is : x ≡ tabled (take h.wires table) h.inputs h.outputs
-      is = e ∙ cond-true _ _ _ a.fits
-
-      pub accepted_circuit : x ≡ or_lone m
-      accepted_circuit = is ∙ ap or_lone (sym a.meant)
-
-      pub accepted_gives : Gives text (Ok h) x
-      accepted_gives = (a.lines, (ap width is ∙ length-map (take h.wires table) (λ (q : Entry). q.making) ∙ a.wires, (ap (λ y. y.inputs) is, ap (λ y. y.outputs) is)))
-
-  module _ (f : Fault) (r : Refused text m f) (x : Meaning) (e : x ≡ lone) where
-    pub refused_circuit : x ≡ or_lone m
-    refused_circuit = e ∙ ap or_lone (sym r.none)
-
-    pub refused_gives : Gives text (Err f) x
-    refused_gives = (r.placed, e)

@@ -21,21 +21,25 @@ module _ (text : List ℕ) (wires k i at : ℕ) (es : List Entry) (total : Resul
   pub gates_go : (es' : List Entry) (on : ℕ) → Ok (es', on) ≡ next_gate text wires es at → gates_at text wires (k - (i + 1)) es' on ≡ total
   gates_go es' on e = ap (λ r. then r (λ es' on. gates_at text wires (k - (i + 1)) es' on)) e ∙ step
 
-module _ (text : List ℕ) (h : Header) (at : ℕ) (first : List Entry) (rows : length first ≡ h.wires) (front : take h.inputs first ≡ inputs h.inputs) where
+module _ (text : List ℕ) (h : Header) (at : ℕ) where
   abbrev ending : Result (List Entry × ℕ) Fault → Result (List Entry) Fault
   ending r = then r (λ es on. close text h.wires es (token_at text (line_start text on)))
 
-  lines_are : gates_at text (length first) h.gates (take h.inputs first) at ≡ gates_at text h.wires h.gates (inputs h.inputs) at
-  lines_are = ap (λ w. gates_at text w h.gates (take h.inputs first) at) rows ∙ ap (λ es. gates_at text h.wires h.gates es at) front
+  module _ (rows : ℕ) (size : rows ≡ h.wires) (front : List Entry) (first : front ≡ inputs h.inputs) where
+    lines_are : gates_at text rows h.gates front at ≡ gates_at text h.wires h.gates (inputs h.inputs) at
+    lines_are = ap (λ w. gates_at text w h.gates front at) size ∙ ap (λ es. gates_at text h.wires h.gates es at) first
 
-  module _ (made_count on : ℕ) (table : List Entry) (ranks : List ℕ) (e : Ok (take made_count table, on) ≡ gates_at text (length first) h.gates (take h.inputs first) at) (size : length table ≡ h.wires) where
-    same_end : (r : Result (Unit {0}) Fault) → IfOk r (λ _. made_count ≡ length table) → bodied r table ≡ bodied r (take made_count table)
-    same_end (Ok t) all = ap Ok (sym (take_all made_count table (omega (arith, all))))
-    same_end (Err f) all = refl
+    pub body_stops : (f : Fault) → Err f ≡ gates_at text rows h.gates front at → Err f ≡ body_at text h at
+    body_stops f e = ap ending (e ∙ lines_are)
 
-    pub body_ends : (r : Result (Unit {0}) Fault) → IfOk r (λ _. made_count ≡ length table) → bodied r (take made_count table) ≡ close text (length table) (take made_count table) (token_at text (line_start text on)) → bodied r table ≡ body_at text h at
-    body_ends r all c = same_end r all ∙ c ∙ ap (λ w. close text w (take made_count table) (token_at text (line_start text on))) size ∙ ap ending (e ∙ lines_are)
+    module _ (k on : ℕ) (table : List Entry) (e : Ok (take k table, on) ≡ gates_at text rows h.gates front at) where
+      same_end : (r : Result (Unit {0}) Fault) → IfOk r (λ _. k ≡ length table) → bodied r table ≡ bodied r (take k table)
+      same_end (Ok t) all = ap Ok (sym (take_all k table (omega (arith, all))))
+      same_end (Err f) all = refl
 
-    pub ranks_end : Keeps made_count table ranks → (r : Result (Unit {0}) Fault) → IfOk r (λ _. made_count ≡ length table) → IfOk r (λ _. ranks ≡ ranks_of table h.wires)
-    ranks_end keeps (Ok t) all = ranks_all made_count table ranks keeps all ∙ ap (ranks_of table) size
-    ranks_end keeps (Err f) all = tt
+      pub body_ends : (r : Result (Unit {0}) Fault) → IfOk r (λ _. k ≡ length table) → bodied r (take k table) ≡ close text h.wires (take k table) (token_at text (line_start text on)) → bodied r table ≡ body_at text h at
+      body_ends r all c = same_end r all ∙ c ∙ ap ending (e ∙ lines_are)
+
+pub ranks_end : (wires k : ℕ) (table : List Entry) (ranks : List ℕ) → length table ≡ wires → Keeps k table ranks → (r : Result (Unit {0}) Fault) → IfOk r (λ _. k ≡ length table) → IfOk r (λ _. ranks ≡ ranks_of table wires)
+ranks_end wires k table ranks size keeps (Ok t) all = ranks_all k table ranks keeps all ∙ ap (ranks_of table) size
+ranks_end wires k table ranks size keeps (Err f) all = tt

@@ -13,9 +13,9 @@ use Rattle.tokens.specs.Faults.{fault_at}
 use Rattle.tokens.specs.Gates as gates
 use Rattle.tokens.specs.Gates.{look_up, rule_of}
 use Rattle.tokens.specs.Tokens.{Piece, number, word, end, token_at}
-use Rattle.tokens.specs.Lines.{Parsed, then, listed, known, number_at, numbers_at, pass_at, rule_at, rule_in, end_at, line_at, gate_at, gate_of}
+use Rattle.tokens.specs.Lines.{Parsed, then, landed, listed, known, number_at, numbers_at, pass_at, rule_at, rule_in, end_at, line_at, gate_at, gate_of}
 use Rattle.reading.specs.Texts.{suits, after, gate, gate_in, line_makes}
-use Rattle.reading.specs.Holds.{two, Whole, told, told_on}
+use Rattle.reading.specs.Holds.{two, Whole}
 use Rattle.tokens.proofs.Readings.{err_ok, then_inv, ok_same}
 use Rattle.reading.proofs.Stand.{rows_length}
 
@@ -164,12 +164,12 @@ module _ (text : List ℕ) (count : ℕ) (es : List Entry) (at : ℕ) where
         ap (λ m. Err (fault_at text refusal.CountsDoNotSuit m.at)) same ∙ ap (λ b. Err (fault_at text refusal.CountsDoNotSuit b)) (sym known_line.first)
         ∙ sym (ap (λ x. after x (λ es'. Ok (es', last))) (cond-false _ _ _ (lengths ∙ f))) ∙ gives
 
-    told_after : (r : Result ℕ Fault) (table : List Entry) (x : Result (List Entry) Fault) → told r table ≡ x → told_on r table last ≡ after x (λ es'. Ok (es', last))
-    told_after (Ok k) table x h = ap (λ y. after y (λ es'. Ok (es', last))) h
-    told_after (Err f) table x h = ap (λ y. after y (λ es'. Ok (es', last))) h
+    landed_after : (x : Result (List Entry) Fault) → landed x last ≡ after x (λ es'. Ok (es', last))
+    landed_after (Ok es') = refl
+    landed_after (Err f) = refl
 
-    pub gate_made : suits g.rule g.inputs g.results ≡ true → (r : Result ℕ Fault) (table : List Entry) → told r table ≡ line_makes text count es (gate_of text g) → told_on r table last ≡ gate_in text count es at
-    gate_made y r table h = told_after r table _ h ∙ sym (ap (λ x. after x (λ es'. Ok (es', last))) (cond-true _ _ _ (lengths ∙ y))) ∙ gives
+    pub gate_made : suits g.rule g.inputs g.results ≡ true → (x : Result (List Entry) Fault) → x ≡ line_makes text count es (gate_of text g) → landed x last ≡ gate_in text count es at
+    gate_made y x h = landed_after x ∙ ap (λ z. after z (λ es'. Ok (es', last))) (h ∙ sym (cond-true _ _ _ (lengths ∙ y))) ∙ gives
 
     pub gate_whole : suits g.rule g.inputs g.results ≡ true → Whole text g
     gate_whole y = record { ins = known_line.ins; outs = known_line.outs; counts = known_line.good g.inputs g.results y }

@@ -1,12 +1,12 @@
 -- The circuit's inputs in memory, and the ranks at the end.
 use Rattle.std.proofs.Common.{◌≡◌, ℕ, zero, suc, ◌+◌, ◌<◌, ◌≤◌, true, false, ltb, List, [], ◌∷◌, ◌++◌, length, get_or, take, set, replicate, sym, refl, ap, ◌∙◌, subst, ⊎_elim, add-one, arith}
-use Rattle.std.proofs.lemmas.List.{length_push, length-replicate, get_or-replicate, get_or_push, get_or_append_left, take_all, ext_get_or}
+use Rattle.std.proofs.lemmas.List.{take_more_set, length_push, length-replicate, get_or-replicate, get_or_push, get_or_append_left, take_all, ext_get_or}
 use Rattle.std.proofs.lemmas.Bool.{both_ways, cases_Bool, cases_eq}
 use Rattle.circuits.specs.declared.making.Entry.{Entry}
 use Rattle.circuits.specs.declared.making.Making.TheVariants as making
 use Rattle.reading.specs.Texts.{rank, made, inputs, ranks_of}
 use Rattle.reading.specs.Holds.{many, Held, Keeps}
-use Rattle.reading.proofs.Held.{elsewhere, keeps_more, many_lt}
+use Rattle.reading.proofs.Held.{elsewhere, many_lt}
 
 pub many_none : (k : ℕ) → many [] k ≡ 0
 many_none zero = refl
@@ -35,13 +35,9 @@ pub inputs_unmade : (k n : ℕ) → k ≤ n → made (inputs k) n ≡ false
 inputs_unmade zero n le = refl
 inputs_unmade (suc k) n le = elsewhere (inputs k) (input k) (inputs_unmade k k (omega arith)) n (λ e. omega arith) ∙ inputs_unmade k n (omega arith)
 
-pub keeps_input : (k : ℕ) (table : List Entry) (ranks : List ℕ) → Keeps k table ranks → take k table ≡ inputs k → k < length table → (table' : List Entry) (ranks' : List ℕ) → table' ≡ set table k (input k) → ranks' ≡ set ranks k k → Keeps (k + 1) table' ranks' × (take (k + 1) table' ≡ inputs (k + 1))
-keeps_input k table ranks keeps front lt table' ranks' a b =
-    let fresh : made (take k table) k ≡ false = ap (λ l. made l k) front ∙ inputs_unmade k k (omega arith) in
-    let t = keeps_more k table ranks keeps (input k) lt fresh in (
-      subst (λ l. Keeps (k + 1) l ranks') (sym a) (subst (λ l. Keeps (k + 1) (set table k (input k)) l) (sym b) t.0),
-      ap (take (k + 1)) a ∙ t.1 ∙ ap (λ l. l ++ input k ∷ []) front ∙ ap inputs (sym (add-one k)),
-    )
+-- one more input stands in the table
+pub input_more : (k n : ℕ) (table table' : List Entry) → k ≡ n → k < length table → take k table ≡ inputs k → table' ≡ set table k (input n) → take (k + 1) table' ≡ inputs (k + 1)
+input_more k n table table' same lt front a = ap (take (k + 1)) a ∙ take_more_set table k (input n) lt ∙ ap (λ l. l ++ input n ∷ []) front ∙ ap (λ m. inputs k ++ input m ∷ []) (sym same) ∙ ap inputs (sym (add-one k))
 
 pub ranks_length : (es : List Entry) (k : ℕ) → length (ranks_of es k) ≡ k
 ranks_length es zero = refl

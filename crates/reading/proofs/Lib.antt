@@ -1,5 +1,6 @@
 pub mod Laws
 pub mod Held
+pub mod Lasting
 pub mod Stand
 pub mod Tested
 pub mod Sides

@@ -1,6 +1,6 @@
 -- The turns of the walk over a gate line's wires.
-use Rattle.std.proofs.Common.{◌≡◌, ℕ, ◌+◌, ◌*◌, ◌<◌, ◌≤◌, true, false, cond, not, ◌&&◌, ltb, List, [], length, get_or, take, set, is_ok, Some, None, Ok, Err, Option, Result, sym, refl, ap, ◌∙◌, subst, ⊎_elim, arith}
-use Rattle.std.proofs.lemmas.Bool.{cond-true, cond-false, cases_Bool, not-true, not-false}
+use Rattle.std.proofs.Common.{◌≡◌, ℕ, ◌+◌, ◌*◌, ◌<◌, ◌≤◌, true, false, cond, not, ◌&&◌, ltb, List, [], length, get_or, take, set, is_ok, Ok, Err, Result, sym, refl, ap, ◌∙◌, subst, ⊎_elim, arith}
+use Rattle.std.proofs.lemmas.Bool.{cond-true, cond-false, cases_Bool, and_parts, not-true, not-false}
 use Rattle.circuits.specs.declared.making.Entry.{Entry}
 use Rattle.circuits.specs.declared.making.Making.{Making}
 use Rattle.tokens.specs.declared.fault.Fault.{Fault}
@@ -19,11 +19,6 @@ use Rattle.reading.proofs.Sides.{none, ins, in_stop, outs, row, stop, side_run, 
 
 in_out : In ≡ Out → ⊥
 in_out e = out_in (sym e)
-
--- what the walk answers
-abbrev pub closing : Option Fault → List Entry → Result (List Entry) Fault
-closing None es = Ok es
-closing (Some f) es = Err f
 
 module _ (text : List ℕ) (count : ℕ) (g : GateLine) (before : List Entry) where
   pub row_count : Whole text g → (s : Side) → length (row text count g before s) ≡ count_of g s
@@ -87,11 +82,11 @@ module _ (text : List ℕ) (count : ℕ) (g : GateLine) (before : List Entry) wh
         abbrev fine : passes text count g before Out (take next table) n.value ≡ true
         fine = good Out h lt n on e (λ es. Ok es) f
 
-        pub room : next < length table
-        room = (grows text count g before whole first next i at left right table ranks h lt n on e fine).2
+        pub named : n.value < length table
+        named = omega (arith, h.keeps.held.rows, low text count g before whole first next i at left right table ranks h lt n on e fine)
 
-        pub named : n.value < length ranks
-        named = omega (arith, h.keeps.held.names, h.keeps.held.rows, low text count g before whole first next i at left right table ranks h lt n on e fine)
+        pub unmade : made (take next table) n.value ≡ false
+        unmade = not-true _ (and_parts _ _ fine).1
 
         pub record Again (w : Making) (next' left' right' : ℕ) (table' : List Entry) (ranks' : List ℕ) : Type 0 where
           pub making : w ≡ making_in g.rule.making ranks (got (number_at text left)).0.value (cond (two g.rule.making) (got (number_at text right)).0.value 0)
@@ -161,9 +156,9 @@ module _ (text : List ℕ) (count : ℕ) (g : GateLine) (before : List Entry) wh
     asks_out In q h lt = absurd (in_out q)
     asks_out Out q h lt = (left_ok first next i at left right table ranks whole h lt, right_ok first next i at left right table ranks whole h lt)
 
-    pub puts_out : (s : Side) → s ≡ Out → Inner text count g before first next s i at left right table ranks → i < length (row text count g before s) → (n : Numeral) (on : ℕ) → Ok (n, on) ≡ number_at text at → refused g.rule.making s ranks n.value ≡ false → (next < length table) × (n.value < length ranks)
+    pub puts_out : (s : Side) → s ≡ Out → Inner text count g before first next s i at left right table ranks → i < length (row text count g before s) → (n : Numeral) (on : ℕ) → Ok (n, on) ≡ number_at text at → refused g.rule.making s ranks n.value ≡ false → (n.value < length table) × (made (take next table) n.value ≡ false)
     puts_out In q h lt n on e f = absurd (in_out q)
-    puts_out Out q h lt n on e f = (room first next i at left right table ranks whole h lt n on e f, named first next i at left right table ranks whole h lt n on e f)
+    puts_out Out q h lt n on e f = (named first next i at left right table ranks whole h lt n on e f, unmade first next i at left right table ranks whole h lt n on e f)
 
     pub turn_out : (s : Side) → s ≡ Out → Inner text count g before first next s i at left right table ranks → i < length (row text count g before s) → (n : Numeral) (on : ℕ) → Ok (n, on) ≡ number_at text at → refused g.rule.making s ranks n.value ≡ false
         → (w : Making) (next' left' right' : ℕ) (table' : List Entry) (ranks' : List ℕ)
@@ -175,10 +170,10 @@ module _ (text : List ℕ) (count : ℕ) (g : GateLine) (before : List Entry) wh
         let again : Again first next i at left right table ranks whole h lt n on e f w next' left' right' table' ranks' = record { making = a; tables = b; names = c; more = d; lefts = l; rights = r } in
         (again_out first next i at left right table ranks whole h lt n on e f w next' left' right' table' ranks' again, λ k. sym (again_run first next i at left right table ranks whole h lt n on e f w next' left' right' table' ranks' again k))
 
-    pub turn_in : (s : Side) → s ≡ In → Inner text count g before first next s i at left right table ranks → i < length (row text count g before s) → (n : Numeral) (on : ℕ) → Ok (n, on) ≡ number_at text at → refused g.rule.making s ranks n.value ≡ false
+    pub turn_in : (s : Side) → (s ≡ Out → ⊥) → Inner text count g before first next s i at left right table ranks → i < length (row text count g before s) → (n : Numeral) (on : ℕ) → Ok (n, on) ≡ number_at text at → refused g.rule.making s ranks n.value ≡ false
         → (next' left' right' : ℕ) (table' : List Entry) (ranks' : List ℕ) → table' ≡ table → ranks' ≡ ranks → next' ≡ next → left' ≡ left → right' ≡ right
         → Inner text count g before first next' s (i + 1) on left' right' table' ranks' × ((k : List Entry → Result (List Entry) Fault) → side_run text count g before s (i + 1) (take next' table') k ≡ side_run text count g before s i (take next table) k)
-    turn_in Out q h lt n on e f next' left' right' table' ranks' b c d l r = absurd (out_in q)
+    turn_in Out q h lt n on e f next' left' right' table' ranks' b c d l r = absurd (q refl)
     turn_in In q h lt n on e f next' left' right' table' ranks' b c d l r = (
       subst (λ t. Inner text count g before first next' In (i + 1) on left' right' t ranks') (sym b)
           (subst (λ t. Inner text count g before first next' In (i + 1) on left' right' table t) (sym c)

@@ -31,16 +31,6 @@ pub record Keeps (k : ℕ) (table : List Entry) (ranks : List ℕ) : Type 0 wher
   pub room : k ≤ length table
   pub held : Held (length table) (take k table) table ranks
 
--- what a number of wires made says of the table
-abbrev pub told : Result ℕ Fault → List Entry → Result (List Entry) Fault
-told (Ok k) table = Ok (take k table)
-told (Err f) table = Err f
-
--- the same, with where the reader stands then
-abbrev pub told_on : Result ℕ Fault → List Entry → ℕ → Result (List Entry × ℕ) Fault
-told_on (Ok k) table on = Ok (take k table, on)
-told_on (Err f) table on = Err f
-
 -- the number that was read, and where the reader stands then
 abbrev pub got : Result (Numeral × ℕ) Fault → Numeral × ℕ
 got (Ok p) = p
@@ -68,7 +58,7 @@ pub record Whole (text : List ℕ) (g : GateLine) : Type 0 where
   pub outs : numbers_at text g.results (listed (numbers_at text g.inputs g.wires)).1 ≡ Ok (listed (numbers_at text g.results (listed (numbers_at text g.inputs g.wires)).1))
   pub counts : g.inputs ≡ cond (two g.rule.making) (2 * g.results) g.results
 
--- what the end of the text says of the table
+-- the wires that are made when a reading ends, or its fault
 abbrev pub bodied : Result (Unit {0}) Fault → List Entry → Result (List Entry) Fault
 bodied (Ok _) es = Ok es
 bodied (Err f) es = Err f

@@ -3,6 +3,7 @@
 
 mod gates;
 mod line;
+mod made;
 mod parts;
 pub mod table;
 mod wires;
@@ -15,25 +16,29 @@ use circuits::answer::Refusal;
 use circuits::making::{Entry, Making};
 use gates::read_body;
 use tokens::cursor::Cursor;
-use tokens::fault::{Fault, Reader};
+use tokens::fault::Fault;
 use tokens::header::Header;
 
 // No text is longer than this, whatever limit a reading is given.
 pub const LONGEST_TEXT: usize = 67_108_864;
+
+// What stands in an entry that is cleared.
+pub const CLEARED: Entry = Entry {
+    making: Making::Constant(false),
+    name: 0,
+};
 
 // The memory for a circuit as a refusal leaves it.
 fn clear(table: &mut [Entry], ranks: &mut [u32])
     ensures table { table.new ≡ replicate (length table.old) blank_entry }
     ensures ranks { ranks.new ≡ replicate (length ranks.old) 0 }
 {
-    table.fill(Entry {
-        making: Making::Constant(false),
-        name: 0,
-    });
+    table.fill(CLEARED);
     ranks.fill(0);
 }
 
-// What `read_circuit` does, as far as the definition of the format says it.
+// What `read_circuit` does, as far as the definition of the format says it; the last clause there follows from these three. Table and ranks are two slices, as a caller lends them:
+// reading keeps to lent memory, and takes no heap.
 fn read_into(
     text: &[u8],
     limit: usize,
@@ -45,12 +50,7 @@ fn read_into(
     ensures ranks { ranks.new ≡ ranks_after (outcome text.now limit table.old ranks.old) ranks.old }
 {
     if text.len() > limit || text.len() > LONGEST_TEXT {
-        return Err(Fault {
-            refusal: Refusal::TextTooLong,
-            line: 1,
-            byte: 0,
-            reader: Reader::Circuit,
-        });
+        return Err(Fault::new(Refusal::TextTooLong, 1, 0));
     }
     let mut cursor = Cursor {
         text,
@@ -60,12 +60,7 @@ fn read_into(
     let header = cursor.header()?;
     let wires = header.wires as usize;
     if table.len() < wires || ranks.len() < wires {
-        return Err(Fault {
-            refusal: Refusal::MemoryTooShort,
-            line: header.wires_line,
-            byte: header.wires_at,
-            reader: Reader::Circuit,
-        });
+        return Err(Fault::new(Refusal::MemoryTooShort, header.wires_line, header.wires_at));
     }
     let entries = &mut table[0..wires];
     let names = &mut ranks[0..wires];

@@ -1,11 +1,12 @@
 // The parts of reading a gate line.
-ghost use Rattle.std.specs.Prelude.{◌≡◌, ◌<◌, true, length, is_ok, if◌then◌else◌, Ok, slice_index, slice_set};
+ghost use Rattle.std.specs.Prelude.{◌≡◌, true, is_ok, if◌then◌else◌, Ok, slice_index};
 ghost use Rattle.tokens.specs.Places.{line_of};
 ghost use Rattle.tokens.specs.Lines.{number_at};
 ghost use Rattle.reading.specs.Texts.{fits, suits};
 ghost use Rattle.reading.specs.Holds.{making_in, two, got};
 
-use circuits::making::{Entry, Making};
+use crate::made::Made;
+use circuits::making::Making;
 use tokens::cursor::Cursor;
 use tokens::gate::{Count, Gate, Rule};
 use tokens::token::Numeral;
@@ -32,33 +33,7 @@ pub(crate) fn does_suit(rule: Rule, inputs: u32, results: u32) -> bool
 pub(crate) fn takes_two(gate: Gate) -> bool
     ensures { result ≡ two gate }
 {
-    match gate {
-        Gate::Product => true,
-        Gate::Sum => true,
-        Gate::Inversion => false,
-        Gate::Constant => false,
-        Gate::Copy => false,
-    }
-}
-
-fn rank_of(ranks: &[u32], name: u32) -> u32
-    ensures { result ≡ slice_index ranks.now name }
-{
-    let at = name as usize;
-    if at < ranks.len() { ranks[at] } else { 0 }
-}
-
-// How a gate makes a wire of operands with these names.
-pub(crate) fn making_of(gate: Gate, ranks: &[u32], a: u32, b: u32) -> Making
-    ensures { result ≡ making_in gate ranks.now a b }
-{
-    match gate {
-        Gate::Product => Making::Product(rank_of(ranks, a), rank_of(ranks, b)),
-        Gate::Sum => Making::Sum(rank_of(ranks, a), rank_of(ranks, b)),
-        Gate::Inversion => Making::Inversion(rank_of(ranks, a)),
-        Gate::Constant => Making::Constant(a == 1),
-        Gate::Copy => Making::Copy(rank_of(ranks, a)),
-    }
+    matches!(gate, Gate::Product | Gate::Sum)
 }
 
 // A number that was read here before.
@@ -68,40 +43,44 @@ pub(crate) fn reread(cursor: &mut Cursor) -> Numeral
     ensures line { line_of cursor.new.text.now result.at ≡ cursor.new.line }
     ensures text { cursor.new.text ≡ cursor.old.text }
 {
-    match cursor.number() {
-        Ok(n) => n,
-        Err(_) => unreachable(),
-    }
+    cursor.number().unwrap()
 }
 
-// Writes one wire into both memories.
-pub(crate) fn put(table: &mut [Entry], ranks: &mut [u32], made: u32, making: Making, name: u32)
-    requires row { made < length table.old }
-    requires named { name < length ranks.old }
-    ensures table { table.new ≡ slice_set table.old made (record { making = making; name = name }) }
-    ensures ranks { ranks.new ≡ slice_set ranks.old name made }
-{
-    table[made as usize] = Entry { making, name };
-    ranks[name as usize] = made;
-}
-
-// How the next wire of a gate line is made; its operands are read here.
-pub(crate) fn take_making(
-    gate: Gate,
-    left: &mut Cursor,
-    right: &mut Cursor,
-    ranks: &[u32],
-) -> Making
-    requires left { is_ok (number_at left.old.text.now left.old.at) ≡ true }
-    requires right { two gate ≡ true → is_ok (number_at right.old.text.now right.old.at) ≡ true }
-    ensures making { result ≡ making_in gate ranks.now (got (number_at left.old.text.now left.old.at)).0.value (if two gate then (got (number_at right.old.text.now right.old.at)).0.value else 0) }
-    ensures left { (left.new.text ≡ left.old.text) × (left.new.at ≡ (got (number_at left.old.text.now left.old.at)).1) }
-    ensures right { (right.new.text ≡ right.old.text) × (right.new.at ≡ (if two gate then (got (number_at right.old.text.now right.old.at)).1 else right.old.at)) }
-{
-    let a = reread(left).value;
-    let mut b = 0;
-    if takes_two(gate) {
-        b = reread(right).value;
+impl<'a> Made<'a> {
+    // 0 past the last name, as the definition has it.
+    fn rank_of(&self, name: u32) -> u32
+        ensures { result ≡ slice_index self.now.ranks.now name }
+    {
+        self.ranks.get(name as usize).copied().unwrap_or(0)
     }
-    making_of(gate, ranks, a, b)
+
+    // How a gate makes a wire of operands with these names.
+    fn making_of(&self, gate: Gate, a: u32, b: u32) -> Making
+        ensures { result ≡ making_in gate self.now.ranks.now a b }
+    {
+        match gate {
+            Gate::Product => Making::Product(self.rank_of(a), self.rank_of(b)),
+            Gate::Sum => Making::Sum(self.rank_of(a), self.rank_of(b)),
+            Gate::Inversion => Making::Inversion(self.rank_of(a)),
+            Gate::Constant => Making::Constant(a == 1),
+            Gate::Copy => Making::Copy(self.rank_of(a)),
+        }
+    }
+
+    // How the next wire of a gate line is made; its operands are read here.
+    pub(crate) fn take_making(&self, gate: Gate, left: &mut Cursor, right: &mut Cursor) -> Making
+        requires left { is_ok (number_at left.old.text.now left.old.at) ≡ true }
+        requires right { two gate ≡ true → is_ok (number_at right.old.text.now right.old.at) ≡ true }
+        ensures making { result ≡ making_in gate self.now.ranks.now (got (number_at left.old.text.now left.old.at)).0.value (if two gate then (got (number_at right.old.text.now right.old.at)).0.value else 0) }
+        ensures left { (left.new.text ≡ left.old.text) × (left.new.at ≡ (got (number_at left.old.text.now left.old.at)).1) }
+        ensures right { (right.new.text ≡ right.old.text) × (right.new.at ≡ (if two gate then (got (number_at right.old.text.now right.old.at)).1 else right.old.at)) }
+    {
+        let a = reread(left).value;
+        let b = if takes_two(gate) {
+            reread(right).value
+        } else {
+            0
+        };
+        self.making_of(gate, a, b)
+    }
 }

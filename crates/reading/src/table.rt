@@ -2,6 +2,7 @@
 ghost use Rattle.std.specs.Prelude.{◌≡◌, ◌≤◌, length, take, if◌then◌else◌};
 ghost use Rattle.circuits.specs.Tables.{tabled, lone, table_fits};
 ghost use Rattle.reading.specs.Accepted.{Gives, or_lone};
+ghost use Rattle.reading.specs.Readings.{answer_in, circuit_in};
 ghost use Rattle.reading.specs.Texts.{outcome, answer, circuit_of};
 
 use crate::read_circuit;
@@ -10,10 +11,10 @@ use circuits::table::Table;
 use tokens::fault::Fault;
 use tokens::header::Header;
 
-// The answer to a text, with its circuit; with a lone input where the text is refused. No enum may hold the table.
+// What the first three lines of a text say, with its circuit in the lent memory.
 #[derive(Clone, Copy)]
 pub struct Reading<'a> {
-    pub answer: Result<Header, Fault>,
+    pub header: Header,
     pub circuit: Table<'a>,
 }
 
@@ -38,20 +39,24 @@ pub fn read_table<'a>(
     limit: usize,
     table: &'a mut [Entry],
     ranks: &'a mut [u32],
-) -> Reading<'a>
-    ensures answer { result.answer ≡ answer (outcome text.now limit table.old ranks.old) }
-    ensures circuit { tabled result.circuit.entries.now result.circuit.inputs result.circuit.outputs ≡ or_lone (circuit_of (outcome text.now limit table.old ranks.old)) }
-    ensures gives { Gives text.now result.answer (tabled result.circuit.entries.now result.circuit.inputs result.circuit.outputs) }
+) -> Result<Reading<'a>, Fault>
+    ensures answer { answer_in result ≡ answer (outcome text.now limit table.old ranks.old) }
+    ensures circuit { circuit_in result ≡ circuit_of (outcome text.now limit table.old ranks.old) }
+    ensures gives { Gives text.now (answer_in result) (or_lone (circuit_in result)) }
 {
-    let answer = read_circuit(text, limit, table, ranks);
-    match answer {
-        Ok(header) => Reading {
-            answer,
-            circuit: table_of(header, table, ranks),
-        },
-        Err(_) => Reading {
-            answer,
-            circuit: Table::new(&[], &[], 0, 0),
-        },
+    let header = read_circuit(text, limit, table, ranks)?;
+    Ok(Reading {
+        header,
+        circuit: table_of(header, table, ranks),
+    })
+}
+
+// The circuit of a reading, or a lone input where the text was refused.
+pub fn circuit_or_lone<'a>(reading: Result<Reading<'a>, Fault>) -> Table<'a>
+    ensures { tabled result.entries.now result.inputs result.outputs ≡ or_lone (circuit_in reading.entry) }
+{
+    match reading {
+        Ok(reading) => reading.circuit,
+        Err(_) => Table::new(&[], &[], 0, 0),
     }
 }

@@ -1,9 +1,11 @@
 // The tests of the wires that a gate line names.
 ghost use Rattle.std.specs.Prelude.{◌≡◌};
-ghost use Rattle.reading.specs.Wires.{has_rank, offends, refused, side_refusal};
+ghost use Rattle.reading.specs.Wires.{has_rank, offends, refused, side_refusal, count_of};
 
+use crate::made::Made;
 use circuits::answer::Refusal;
 use tokens::gate::Gate;
+use tokens::line::GateLine;
 
 // The two sides of a gate line: its inputs, then its results.
 #[derive(Clone, Copy, PartialEq, Eq, Debug)]
@@ -12,30 +14,32 @@ pub enum Side {
     Out,
 }
 
-// The rank of a wire that is made is below the number of wires.
-fn is_made(ranks: &[u32], name: u32) -> bool
-    ensures { result ≡ has_rank ranks.now name }
-{
-    let n = name as usize;
-    n < ranks.len() && (ranks[n] as usize) < ranks.len()
-}
-
-fn does_offend(side: Side, ranks: &[u32], name: u32) -> bool
-    ensures { result ≡ offends side ranks.now name }
-{
-    match side {
-        Side::In => !is_made(ranks, name),
-        Side::Out => name as usize >= ranks.len() || is_made(ranks, name),
+impl<'a> Made<'a> {
+    // The rank of a wire that is made is below the number of wires.
+    fn is_made(&self, name: u32) -> bool
+        ensures { result ≡ has_rank self.now.ranks.now name }
+    {
+        let rank = self.ranks.get(name as usize);
+        rank.is_some_and(|rank| (*rank as usize) < self.ranks.len())
     }
-}
 
-// Whether a number on this side of a gate line is refused.
-pub(crate) fn is_refused(gate: Gate, side: Side, ranks: &[u32], value: u32) -> bool
-    ensures { result ≡ refused gate side ranks.now value }
-{
-    match (gate, side) {
-        (Gate::Constant, Side::In) => value > 1,
-        _ => does_offend(side, ranks, value),
+    fn does_offend(&self, side: Side, name: u32) -> bool
+        ensures { result ≡ offends side self.now.ranks.now name }
+    {
+        match side {
+            Side::In => !self.is_made(name),
+            Side::Out => name as usize >= self.ranks.len() || self.is_made(name),
+        }
+    }
+
+    // Whether a number on this side of a gate line is refused.
+    pub(crate) fn is_refused(&self, gate: Gate, side: Side, value: u32) -> bool
+        ensures { result ≡ refused gate side self.now.ranks.now value }
+    {
+        match (gate, side) {
+            (Gate::Constant, Side::In) => value > 1,
+            _ => self.does_offend(side, value),
+        }
     }
 }
 
@@ -45,5 +49,15 @@ pub(crate) fn refusal_of(side: Side) -> Refusal
     match side {
         Side::In => Refusal::BadInput,
         Side::Out => Refusal::BadResult,
+    }
+}
+
+// How many wires a side of a gate line has.
+pub(crate) fn count_of(line: GateLine, side: Side) -> u32
+    ensures { result ≡ count_of line side }
+{
+    match side {
+        Side::In => line.inputs,
+        Side::Out => line.results,
     }
 }

@@ -1,10 +1,9 @@
 -- At limit two a plan is clean exactly when it has a wire of every route.
-use Rattle.std.proofs.Common.{◌≡◌, ℕ, zero, suc, ◌+◌, ◌-◌, ◌<◌, ◌≤◌, max, Bool, true, false, cond, ltb, ◌⊎◌, ◌↔◌, List, [], ◌∷◌, ◌++◌, length, get_or, drop, sym, refl, ap, ◌∙◌, subst, ap₂, inl, inr, ⊎_elim, add-zero, arith, get_or-drop, below_more}
+use Rattle.std.proofs.Common.{◌≡◌, ℕ, zero, suc, ◌+◌, ◌-◌, ◌<◌, ◌≤◌, max, Bool, true, false, cond, ltb, ◌⊎◌, ◌↔◌, List, [], ◌∷◌, ◌++◌, length, get_or, drop, Some, None, sym, refl, ap, ◌∙◌, subst, ap₂, inl, inr, ⊎_elim, add-zero, arith, get_or-drop, below_more}
 use Rattle.std.proofs.lemmas.List.{length-drop, drop-drop, get_or_past, length_push, get_or_push, get_or_append_left}
 use Rattle.std.proofs.lemmas.Bool.{true≢false, cond-true, cond-false, lt-ltb, le-ltb, cases_lt}
 use Rattle.circuits.specs.Growths.{Tables, Level, Grows}
 use Rattle.circuits.specs.Levels.{Outcome, rules, own, has, run_from}
-use Rattle.circuits.specs.declared.answer.Levels.TheVariants.{Clean, Overrun}
 use Rattle.circuits.specs.declared.making.Making.{Making}
 use Rattle.circuits.specs.declared.making.Making.TheVariants.{Input, Constant, Copy, Inversion, Sum, Product}
 use Rattle.routes.specs.Routes.{at, Takes, Multiplies, PassesOn, Operand, Ordered, Wires, Joined, last, Ends, Route, Hits, Ahead, starts, goes_on}
@@ -241,7 +240,7 @@ module _ (g : Tables) (limit n : ℕ) (c : List Making) (ordered : Ordered c) (p
   Stays k = (w : ℕ) → k ≤ w → w < length c → own_by g f (at c w) ≤ limit
 
   clean_from : (ms : List Making) (out : List ℕ) → drop (length out) c ≡ ms → ((w : ℕ) → w < length out → get_or out w 0 ≡ f w)
-      → ((run_from (rules g limit n) plan out ms).answer ≡ Clean) ↔ Stays (length out)
+      → ((run_from (rules g limit n) plan out ms).answer ≡ None) ↔ Stays (length out)
   clean_from [] out e same =
       let l : length c - length out ≡ 0 = sym (length-drop (length out) c) ∙ ap length e in
       (λ k w h i. absurd (omega arith), λ k. refl)
@@ -255,11 +254,11 @@ module _ (g : Tables) (limit n : ℕ) (c : List Making) (ordered : Ordered c) (p
       let more : List ℕ = out ++ (v ∷ []) in
       let long : length more ≡ k + 1 = length_push out v in
       let rest : drop (length more) c ≡ xs = ap (λ i. drop i c) long ∙ sym (drop-drop 1 k c) ∙ ap (drop 1) e in
-      let next : ((run_from (rules g limit n) plan more xs).answer ≡ Clean) ↔ Stays (length more) =
+      let next : ((run_from (rules g limit n) plan more xs).answer ≡ None) ↔ Stays (length more) =
       clean_from xs more rest (λ w h. below_more (λ w. get_or more w 0 ≡ f w) k (λ u i. get_or_append_left out (v ∷ []) 0 u i ∙ same u i) (get_or_push out v 0 k refl ∙ is_f) w (omega (arith, long))) in
       ⊎_elim
       (λ (past : limit < own g out x).
-      let stops : (run_from (rules g limit n) plan out (x ∷ xs)).answer ≡ Overrun (k, own g out x) =
+      let stops : (run_from (rules g limit n) plan out (x ∷ xs)).answer ≡ Some (record { rank = k; level = own g out x }) =
       ap (λ (o : Outcome). o.answer) (cond-true (ltb limit (own g out x)) _ _ (lt-ltb limit (own g out x) past)) in
       (λ a. let z : ◌≡◌ {A = ℕ} 0 1 = cc in absurd (omega arith), λ s. absurd (omega (arith, s k (omega arith) (omega arith)))))
       (λ (low : own g out x ≤ limit).
@@ -282,7 +281,7 @@ clean_is_every_route_hit g laws m ordered plan =
     let p : Wires = wires_of plan in
     let out : ℕ → ℕ = sent_by g 1 c p in
     let law : (w : ℕ) → out w ≡ cond (p w) 1 (own_by g out (at c w)) = λ w. ap (λ x. cond (p w) 1 x) (own_law g 1 c ordered p w) in
-    let run : ((run_from (rules g 2 1) plan [] c).answer ≡ Clean) ↔ ((w : ℕ) → 0 ≤ w → w < length c → own_by g out (at c w) ≤ 2) =
+    let run : ((run_from (rules g 2 1) plan [] c).answer ≡ None) ↔ ((w : ℕ) → 0 ≤ w → w < length c → own_by g out (at c w) ≤ 2) =
     clean_from g 2 1 c ordered plan out law c [] refl (λ w h. absurd (omega arith)) in (
       λ clean. clean_hits g laws c ordered p out law (λ w. ⊎_elim (λ l. run.0 clean w (omega arith) l) (λ l. subst (λ x. own_by g out x ≤ 2) (sym (get_or_past c w Input l)) (omega arith)) (cases_lt w (length c))),
       λ hit. run.1 (λ w h l. (hit_known g laws c ordered p out law hit w).0),

@@ -1,12 +1,11 @@
 -- Small circuits, with what becomes of each.
-use Rattle.std.specs.Prelude.{◌≡◌, ℕ, ◌+◌, true, ◌⊎◌, List, [], ◌∷◌}
+use Rattle.std.specs.Prelude.{◌≡◌, ℕ, ◌+◌, true, ◌⊎◌, List, [], ◌∷◌, Some}
 use Rattle.std.specs.List.{AllByRecursion}
 use Rattle.circuits.specs.Circuits.{Meaning, Lawful}
 use Rattle.circuits.specs.Growths.{Tables, Grows, exponential}
 use Rattle.circuits.specs.Levels.{rules, run_from, IsClean}
 use Rattle.circuits.specs.Matchings.{matching}
 use Rattle.circuits.specs.Tables.{tabled}
-use Rattle.circuits.specs.declared.answer.Levels.TheVariants.{Overrun}
 use Rattle.circuits.specs.declared.making.Entry.{Entry}
 use Rattle.circuits.specs.declared.making.Making.{Making}
 use Rattle.circuits.specs.declared.making.Making.TheVariants.{Input, Inversion, Sum, Product}
@@ -55,7 +54,7 @@ pub data Expected : Type 0 where
 abbrev pub Becomes : Meaning → Wires → Expected → Type 0
 Becomes m barred (plan_is plan) = EarliestSmallest m.makings barred plan
 Becomes m barred (blocked_by r) = Route m.makings r × AllByRecursion (λ w. barred w ≡ true) r
-Becomes m barred (overruns plan rank level) = (run_from (rules exponential 2 1) plan [] m.makings).answer ≡ Overrun (rank, level)
+Becomes m barred (overruns plan rank level) = (run_from (rules exponential 2 1) plan [] m.makings).answer ≡ Some (record { rank = rank; level = level })
 
 -- a circuit, its barred wires, and what becomes of it
 pub record Job : Type 0 where

@@ -1,9 +1,11 @@
 -- Rows and writes.
-use Rattle.std.proofs.Common.{◌≡◌, ℕ, suc, ◌+◌, ◌-◌, ◌*◌, ◌^◌, ◌<◌, ◌≤◌, cond, eqb, List, length, get_or, take, drop, set, sym, refl, ap, ◌∙◌, subst, ⊎_elim, mul-le-mul_right, suc-mul, arith, length-drop, length-set, length-take, get_or-drop, get_or-take, drop-set-lt}
+use Rattle.std.proofs.Common.{◌≡◌, ℕ, suc, ◌+◌, ◌-◌, ◌*◌, ◌<◌, ◌≤◌, cond, eqb, List, ◌++◌, length, replicate, get_or, take, drop, set, sym, refl, ap, ◌∙◌, subst, ⊎_elim, mul-le-mul_right, suc-mul, arith, length-drop, length-set, length-take, get_or-drop, get_or-take, drop-set-lt}
 use lib.Seq.{take-set-lt, take-set-le, drop-set-add}
-use Rattle.std.proofs.lemmas.List.{get_or-set_same, get_or-set_other}
+use Rattle.std.proofs.lemmas.List.{get_or-set_same, get_or-set_other, length-replicate, get_or_append_left, get_or-append_right, get_or-replicate}
 use Rattle.std.proofs.lemmas.Bool.{cases_eq, cases_order, eq-eqb, ne_eqb}
-use Rattle.rows.specs.Rows.{Room, row_of, cell, written, Only}
+use Rattle.rows.specs.declared.rows.Row.{Row}
+use Rattle.rows.specs.declared.rows.Row.TheVariants as row
+use Rattle.rows.specs.Rows.{Room, row_of, cell, written, row_number, Wiped, Only}
 
 -- a lower row ends before a higher one begins
 pub rows_apart : (n q r : ℕ) → q < r → q * n + n ≤ r * n
@@ -11,9 +13,6 @@ rows_apart n q r h = omega (arith, suc-mul q n, mul-le-mul_right {m = suc q} {n 
 
 pub row_end : (n : ℕ) (m : List ℕ) → Room n m → (r : ℕ) → r < 24 → r * n + n ≤ length m
 row_end n m room r h = omega (arith, rows_apart n r 24 h, room.rows)
-
-pub row_few : (n : ℕ) (m : List ℕ) → Room n m → (r : ℕ) → r < 24 → r * n + n ≤ 24 * 2 ^ 20
-row_few n m room r h = omega (arith, rows_apart n r 24 h, room.few)
 
 pub cell_at : (m : List ℕ) (n r w : ℕ) → w < n → cell m n r w ≡ get_or m (r * n + w) 0
 unfolding row_of
@@ -69,9 +68,6 @@ cell_else m n r w k q h ne u = ap (λ xs. get_or xs u 0) (row_else m n r w k q h
 
 -- which rows differ
 module _ (R : ℕ → Type 0) (n : ℕ) where
-  pub only_same : (m : List ℕ) → Only R n m m
-  only_same m r h = refl
-
   pub only_then : (m m' m'' : List ℕ) → Only R n m m' → Only R n m' m'' → Only R n m m''
   only_then m m' m'' a b r h = b r h ∙ a r h
 
@@ -80,3 +76,64 @@ module _ (R : ℕ → Type 0) (n : ℕ) where
 
   pub only_wider : (S : ℕ → Type 0) (m m' : List ℕ) → ((r : ℕ) → S r → R r) → Only S n m m' → Only R n m m'
   only_wider S m m' wider o r h = o r (λ s. h (wider r s))
+
+-- zeros in the place of a part
+pub wiped_part : (m ys : List ℕ) (a b : ℕ) → a ≤ b → b ≤ length m → ys ≡ replicate (b - a) 0 → Wiped m (take a m ++ (ys ++ drop (b - a) (drop a m))) a b
+wiped_part m ys a b h l e =
+    record {
+      inside = λ k from to.
+          get_or-append_right (take a m) rest a k 0 before from
+          ∙ get_or_append_left ys (drop (b - a) (drop a m)) 0 (k - a) (omega (arith, many))
+          ∙ ap (λ zs. get_or zs (k - a) 0) e
+          ∙ get_or-replicate (b - a) (k - a) 0 0 (omega arith);
+      outside = λ k. ⊎_elim
+          (λ low. get_or_append_left (take a m) rest 0 k (omega (arith, before)) ∙ get_or-take a m k 0 low)
+          (λ high.
+          get_or-append_right (take a m) rest a k 0 before (omega arith)
+          ∙ get_or-append_right ys (drop (b - a) (drop a m)) (b - a) (k - a) 0 many (omega arith)
+          ∙ get_or-drop (b - a) (drop a m) ((k - a) - (b - a)) 0
+          ∙ get_or-drop a m ((b - a) + ((k - a) - (b - a))) 0
+          ∙ ap (λ i. get_or m i 0) (place k high));
+    }
+  where
+    rest : List ℕ
+    rest = ys ++ drop (b - a) (drop a m)
+
+    before : length (take a m) ≡ a
+    before = simp length-take (omega arith)
+
+    many : length ys ≡ b - a
+    many = ap length e ∙ length-replicate (b - a) 0
+
+    place : (k : ℕ) → b ≤ k → a + ((b - a) + ((k - a) - (b - a))) ≡ k
+    place k high = omega arith
+
+-- there are no more than 24 rows
+pub row_low : (r : Row) → row_number r < 24
+row_low row.Kind = omega arith
+row_low row.First = omega arith
+row_low row.Second = omega arith
+row_low row.Bars = omega arith
+row_low row.Goals = omega arith
+row_low row.Lists = omega arith
+row_low row.Fed = omega arith
+row_low row.FedSecond = omega arith
+row_low row.Start = omega arith
+row_low row.FromFirst = omega arith
+row_low row.FromSecond = omega arith
+row_low row.Finish = omega arith
+row_low row.Through = omega arith
+row_low row.Marks = omega arith
+row_low row.MarksSecond = omega arith
+row_low row.Stack = omega arith
+row_low row.StackSecond = omega arith
+row_low row.Tried = omega arith
+row_low row.TriedSecond = omega arith
+row_low row.Ended = omega arith
+row_low row.Spare = omega arith
+row_low row.SpareSecond = omega arith
+row_low row.SpareThird = omega arith
+row_low row.SpareFourth = omega arith
+
+pub part_long : (m : List ℕ) (a b : ℕ) → a ≤ b → b ≤ length m → length (take (b - a) (drop a m)) ≡ b - a
+part_long m a b h l = simp (length-take, length-drop) (omega arith)

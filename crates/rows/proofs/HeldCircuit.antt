@@ -1,11 +1,26 @@
 -- The circuit that a memory holds.
-use Rattle.std.proofs.Common.{◌≡◌, ℕ, zero, suc, ◌+◌, ◌<◌, List, [], ◌∷◌, length, get_or, drop, sym, refl, ap, ◌∙◌, subst, ap₂, arith, get_or-drop}
+use Rattle.std.proofs.Common.{Bool, true, false, cond, eqb, ◌≡◌, ℕ, zero, suc, ◌+◌, ◌<◌, List, [], ◌∷◌, length, get_or, drop, sym, refl, ap, ◌∙◌, subst, ap₂, arith, get_or-drop}
 use Rattle.circuits.specs.declared.making.Making.{Making}
+use Rattle.circuits.specs.declared.making.Making.TheVariants.{Constant}
+use Rattle.rows.specs.declared.held.Kind.TheVariants as kind
 use Rattle.circuits.specs.Circuits.{Feeds}
 use Rattle.routes.specs.Routes.{at, Ordered}
 use Rattle.rows.specs.Rows.{Room, row_of, cell, Only}
-use Rattle.rows.specs.Held.{making, makings, circuit_of}
+use Rattle.rows.specs.Held.{making, making_of, kind_of, makings, circuit_of}
 use Rattle.rows.proofs.Cells.{row_length}
+
+-- a number means what its kind does
+pub decoded_is : (k a b : ℕ) → making_of (kind_of k) a b ≡ making k a b
+decoded_is zero a b = refl
+decoded_is (suc zero) a b = refl
+decoded_is (suc (suc zero)) a b = refl
+decoded_is (suc (suc (suc zero))) a b = refl
+decoded_is (suc (suc (suc (suc zero)))) a b = refl
+decoded_is (suc (suc (suc (suc (suc k))))) a b = by_last (eqb k 1)
+  where
+    by_last : (t : Bool) → making_of (cond t kind.True kind.False) a b ≡ Constant t
+    by_last true = refl
+    by_last false = refl
 
 pub makings_at : (ks xs ys : List ℕ) (w : ℕ) → at (makings ks xs ys) w ≡ making (get_or ks w 0) (get_or xs w 0) (get_or ys w 0)
 unfolding makings

@@ -4,3 +4,4 @@ pub mod Feeding
 pub mod Loadings
 pub mod Placing
 pub mod Wholes
+pub mod Rooms

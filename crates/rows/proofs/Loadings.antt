@@ -1,37 +1,19 @@
 -- How a circuit comes into the memory.
-use Rattle.std.proofs.Common.{◌≡◌, ℕ, ◌+◌, ◌^◌, ◌<◌, ◌≤◌, Bool, true, false, cond, eqb, ◌⊎◌, List, [], ◌∷◌, ◌++◌, length, get_or, set, Some, None, Option, sym, refl, ap, ◌∙◌, subst, inl, inr, ⊎_elim, append_assoc, add-one, arith, ext_get_or}
-use Rattle.std.proofs.lemmas.List.{get_or-set_same, get_or-set_other, length-append}
+use Rattle.std.proofs.Common.{◌≡◌, ℕ, ◌+◌, ◌^◌, ◌<◌, ◌≤◌, Bool, true, false, cond, eqb, ◌⊎◌, List, [], ◌∷◌, ◌++◌, length, get_or, Some, None, Option, sym, refl, ap, ◌∙◌, subst, inl, inr, ⊎_elim, append_assoc, add-one, arith, ext_get_or}
+use Rattle.std.proofs.lemmas.List.{length-append}
 use Rattle.std.proofs.lemmas.Bool.{cases_eq, eq-eqb, ne_eqb}
 use Rattle.circuits.specs.declared.making.Making.{Making}
-use Rattle.circuits.specs.declared.making.Making.TheVariants.{Input, Product}
+use Rattle.circuits.specs.declared.making.Making.TheVariants.{Input, Constant, Copy, Inversion, Sum, Product}
 use Rattle.routes.specs.Routes.{at, Takes, Multiplies, IsProduct, Operand, Ordered}
 use Rattle.routes.proofs.Sums.{last_or_lower}
 use Rattle.routes.proofs.Wires.{operand_lower}
 use Rattle.rows.specs.Rows.{Room, cell, written, Between, Only}
 use Rattle.rows.specs.Held.{making, circuit_of}
 use Rattle.rows.specs.Fed.{maybe_use, fed_below, fed, EndsBelow, Flagged}
-use Rattle.rows.specs.Loading.{Wiped, held_at, Put, Family, with_use, Passed, Counted, Countable}
+use Rattle.rows.specs.Loading.{held_at, Put, Family, with_use, Passed, Counted, Countable}
 use Rattle.rows.proofs.Cells.{room_written, cell_here, cell_written, cell_other, cell_else, only_then, only_written}
 use Rattle.rows.proofs.Feeding.{below_grows, begins_few}
 use Rattle.rows.proofs.HeldCircuit.{circuit_at, circuit_length}
-
-pub wiped_none : (m : List ℕ) (from : ℕ) → Wiped m m from from
-wiped_none m from = record { inside = λ k a b. absurd (omega arith); outside = λ k h. refl }
-
-pub wiped_more : (m m' : List ℕ) (from i : ℕ) → from ≤ i → i < length m' → Wiped m m' from i → Wiped m (set m' i 0) from (i + 1)
-wiped_more m m' from i le lt h =
-    record {
-      inside = λ k a b. ⊎_elim
-          (λ e. subst (λ j. get_or (set m' i 0) j 0 ≡ 0) (sym e) (get_or-set_same m' i 0 0 lt))
-          (λ (ne : k ≡ i → ⊥). get_or-set_other m' i k 0 0 ne ∙ h.inside k a (lower k b ne)) (cases_eq k i);
-      outside = λ k a. get_or-set_other m' i k 0 0 (apart k a) ∙ h.outside k (⊎_elim inl (λ l. inr (omega arith)) a);
-    }
-  where
-    lower : (k : ℕ) → k < i + 1 → (k ≡ i → ⊥) → k < i
-    lower k b ne = omega arith
-
-    apart : (k : ℕ) → (k < from) ⊎ (i + 1 ≤ k) → k ≡ i → ⊥
-    apart k a e = ⊎_elim (λ l. omega arith) (λ l. omega arith) a
 
 -- one wire
 module _ (n : ℕ) (m : List ℕ) (room : Room n m) (w k a b : ℕ) (h : w < n) where
@@ -85,6 +67,14 @@ copied_all n m ms room long all =
 -- the flags of goals
 below_next : (c : List Making) (k v : ℕ) → EndsBelow c k v → EndsBelow c (k + 1) v
 below_next c k v e = (e.0, omega (arith, e.1), e.2, e.3)
+
+pub no_product : (how : Making) → ((a b : ℕ) → how ≡ Product a b → ⊥) → Multiplies how → ⊥
+no_product Input not f = f
+no_product (Constant b) not f = f
+no_product (Copy a) not f = f
+no_product (Inversion a) not f = f
+no_product (Sum a b) not f = f
+no_product (Product a b) not f = not a b refl
 
 pub flagged_none : (c : List Making) (n : ℕ) (m : List ℕ) (k : ℕ) → (IsProduct c k → ⊥) → Flagged c n m k → Flagged c n m (k + 1)
 flagged_none c n m k not f v h = (

@@ -1,5 +1,5 @@
 -- How the lists of the wires that each wire feeds come into the memory.
-use Rattle.std.proofs.Common.{◌≡◌, ℕ, ◌+◌, ◌-◌, ◌*◌, ◌<◌, ◌≤◌, Bool, true, false, cond, eqb, ◌⊎◌, List, [], ◌∷◌, ◌++◌, length, get_or, take, drop, set, Some, None, Option, sym, refl, ap, ◌∙◌, subst, inl, inr, ⊎_elim, add-one, arith, length-set, drop-set-lt}
+use Rattle.std.proofs.Common.{◌≡◌, ℕ, ◌+◌, ◌-◌, ◌*◌, ◌<◌, ◌≤◌, Bool, true, false, cond, eqb, List, [], ◌∷◌, ◌++◌, length, get_or, take, drop, set, Some, None, Option, sym, refl, ap, ◌∙◌, subst, inl, inr, ⊎_elim, add-one, arith, length-set, drop-set-lt}
 use lib.Seq.{take-set-le, drop-set-add}
 use Rattle.std.proofs.lemmas.List.{get_or-set_same, get_or-set_other, length-append, get_or_append_left, get_or_push}
 use Rattle.std.proofs.lemmas.Bool.{cases_eq, cases_lt, cases_order, eq-eqb, ne_eqb}
@@ -9,15 +9,12 @@ use Rattle.routes.proofs.Traces.{prefix_le}
 use Rattle.routes.proofs.Wires.{operand_lower}
 use Rattle.rows.specs.Rows.{Room, row_of, cell, written, Between, Only}
 use Rattle.rows.specs.Fed.{one_use, maybe_use, fed_below, fed}
-use Rattle.rows.specs.Loading.{Family, with_use, Passed, offset, Counted, Spaced, Filled, Placeable, FitsIn, ListRow}
+use Rattle.rows.specs.Loading.{Family, with_use, Passed, offset, Spaced, Filled, Placeable, FitsIn, ListRow, PlacedRow}
 use Rattle.rows.proofs.Feeding.{below_few}
 use Rattle.rows.proofs.Loadings.{first_within, next_within}
 use Rattle.rows.proofs.Cells.{rows_apart, room_written, room_same, cell_here, cell_else, only_then, only_written}
 
 -- where the lists begin
-pub spaced_none : (n : ℕ) (m : List ℕ) (A : Family) → Counted n m A → Spaced n m A 0
-spaced_none n m A all = record { begun = λ v h. absurd (omega arith); next = λ v h. absurd (omega arith); left = λ v l h. all v h }
-
 module _ (n : ℕ) (m : List ℕ) (room : Room n m) (A : Family) (k total : ℕ) (h : k < n) (s : Spaced n m A k) (e : total ≡ offset A k) where
   abbrev one : List ℕ
   one = written m n 5 k total
@@ -60,6 +57,10 @@ module _ (n : ℕ) (m : List ℕ) (room : Room n m) (A : Family) (k total : ℕ)
   pub offset_more : total + cell m n 5 k ≡ offset A (k + 1)
   offset_more = omega (arith, e, s.left k (omega arith) h, ap (offset A) (add-one k))
 
+-- the circuit lies in other rows
+pub placed_circuit : (r : ℕ) → r < 3 → PlacedRow r → ⊥
+placed_circuit r h f = ⊎_elim (λ b. omega (arith, b.0)) (λ e. omega arith) f
+
 -- no list has a wire yet
 pub filled_none : (n : ℕ) (m : List ℕ) (A : Family) → Spaced n m A n → Filled n m A (λ v. [])
 filled_none n m A s = record { next = λ v h. s.next v h ∙ omega arith; wires = λ v i h l. absurd (omega arith) }
@@ -92,9 +93,9 @@ module _ (n : ℕ) (m : List ℕ) (room : Room n m) (a w : ℕ) (ha : a < n) (lo
   row_thirteen : (v : ℕ) → cell put_in n 13 v ≡ cell m n 13 v
   row_thirteen v = ap (λ xs. get_or xs v 0) (fed_row_else m n (cell m n 13 a) w 13 low (λ f. omega (arith, f.1)))
 
-  pub placed_rest : Only (λ r. Between 6 7 r ⊎ (r ≡ 13)) n m gone_on
+  pub placed_rest : Only PlacedRow n m gone_on
   placed_rest r off =
-      (let R : ℕ → Type 0 = λ r. Between 6 7 r ⊎ (r ≡ 13) in only_written R n put_in 13 a (cell m n 13 a + 1) ha (inr refl) r off)
+      only_written PlacedRow n put_in 13 a (cell m n 13 a + 1) ha (inr refl) r off
       ∙ fed_row_else m n (cell m n 13 a) w r low (λ f. off (inl f))
 
   module _ (A L : Family) (fits : FitsIn n A L (Some a)) (f : Filled n m A L) where

@@ -7,11 +7,6 @@ use Rattle.rows.specs.Rows.{cell, Between}
 use Rattle.rows.specs.Held.{making}
 use Rattle.rows.specs.Fed.{maybe_use, uses}
 
--- the numbers from a place up to another are 0, and the others as before
-pub record Wiped (m m' : List ℕ) (from to : ℕ) : Type 0 where
-  pub inside : (k : ℕ) → from ≤ k → k < to → slice_index m' k ≡ 0
-  pub outside : (k : ℕ) → (k < from) ⊎ (to ≤ k) → slice_index m' k ≡ slice_index m k
-
 -- how the wire w is made that the memory holds
 abbrev pub held_at : List ℕ → ℕ → ℕ → Making
 held_at m n w = making (cell m n 0 w) (cell m n 1 w) (cell m n 2 w)
@@ -72,3 +67,7 @@ pub record FitsIn (n : ℕ) (A L : Family) (o : Option ℕ) : Type 0 where
 -- the rows that the lists are made in
 abbrev pub ListRow : ℕ → Type 0
 ListRow r = Between 5 7 r ⊎ (r ≡ 13)
+
+-- the rows that wires are added to the lists in
+abbrev pub PlacedRow : ℕ → Type 0
+PlacedRow r = Between 6 7 r ⊎ (r ≡ 13)

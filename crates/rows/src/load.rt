@@ -1,13 +1,12 @@
-ghost use Rattle.std.specs.Prelude.{◌≡◌, ℕ, ◌+◌, ◌*◌, ◌<◌, ◌≤◌, ◌⊎◌, length};
+ghost use Rattle.std.specs.Prelude.{◌≡◌, ℕ, ◌+◌, ◌<◌, ◌≤◌, length};
 ghost use Rattle.circuits.specs.Circuits.{width};
-ghost use Rattle.routes.specs.Routes.{Ordered};
-ghost use Rattle.rows.specs.Rows.{Room, Between, Only};
-ghost use Rattle.rows.specs.Held.{making, circuit_of};
+ghost use Rattle.routes.specs.Routes.{at, Ordered};
+ghost use Rattle.rows.specs.Rows.{Wiped, SameRows, Between, Only};
+ghost use Rattle.rows.specs.Held.{circuit_in};
 ghost use Rattle.rows.specs.Fed.{fed_below, fed, Flagged, FreshLoad};
-ghost use Rattle.rows.specs.Loading.{Wiped, Put, Family, with_use, Passed, Countable, Counted, Spaced, Placeable, FitsIn, Filled, ListRow};
+ghost use Rattle.rows.specs.Loading.{Family, with_use, Passed, Countable, Counted, Spaced, Placeable, FitsIn, Filled, ListRow, PlacedRow};
 
-use crate::held::{encoded, held};
-use crate::rows::{BARS, FED, FIRST, GOALS, KIND, LISTS, MARKS, SECOND, get, put};
+use crate::rows::{Row, Rows};
 use circuits::circuit::Circuit;
 use circuits::making::Making;
 
@@ -17,182 +16,137 @@ pub fn wipe(memory: &mut [u32], from: usize, to: usize)
     requires within { to ≤ length memory.old }
     ensures { Wiped memory.old memory.new from to }
 {
-    for i in from..to {
-        memory[i] = 0;
-    }
+    memory[from..to].fill(0);
 }
 
-// Writes how a wire is made.
-fn put_making(memory: &mut [u32], wires: usize, wire: usize, how: Making)
-    requires room { Room wires memory.old }
-    requires wire { wire < wires }
-    ensures { Put wires memory.old memory.new wire how }
-{
-    let (kind, first, second) = encoded(how);
-    put(memory, wires, KIND, wire, kind);
-    put(memory, wires, FIRST, wire, first);
-    put(memory, wires, SECOND, wire, second);
-}
-
-// Asks the circuit how each wire is made, and writes it.
-fn put_makings<C: Circuit>(circuit: &C, memory: &mut [u32], wires: usize)
-    requires room { Room wires memory.old }
-    requires wires { wires ≡ width (C.Circuit.meaning circuit.now) }
-    ensures { circuit_of memory.new wires ≡ (C.Circuit.meaning circuit.now).makings }
-{
-    for w in 0..wires {
-        if let Some(how) = circuit.making(w as u32) {
-            put_making(memory, wires, w, how);
+// The loops go over wires by rank, since each reads and writes several rows at a wire.
+// That the circuit is ordered is asked in three contracts: a ghost field would have to be shown again at each write.
+impl<'a> Rows<'a> {
+    // Asks the circuit how each wire is made, and writes it.
+    fn put_makings<C: Circuit>(&mut self, circuit: &C)
+        requires wires { self.old.wires ≡ width (C.meaning circuit.now) }
+        ensures same { SameRows self.old self.new }
+        ensures makings { circuit_in self.new ≡ (C.meaning circuit.now).makings }
+    {
+        for wire in 0..self.wires {
+            if let Some(how) = circuit.making(wire as u32) {
+                self.put_making(wire, how);
+            }
         }
     }
-}
 
-// Flags the operands of one wire if it is a product.
-fn flag_wire(memory: &mut [u32], wires: usize, wire: usize)
-    requires room { Room wires memory.old }
-    requires ordered { Ordered (circuit_of memory.old wires) }
-    requires wire { wire < wires }
-    requires flagged { Flagged (circuit_of memory.old wires) wires memory.old wire }
-    ensures rest { Only (Between 4 4) wires memory.old memory.new }
-    ensures flagged { Flagged (circuit_of memory.old wires) wires memory.new (wire + 1) }
-{
-    if let Making::Product(a, b) = held(memory, wires, wire) {
-        put(memory, wires, GOALS, a as usize, 1);
-        put(memory, wires, GOALS, b as usize, 1);
+    // Flags the operands of all products.
+    fn flag_goals(&mut self)
+        requires ordered { Ordered (circuit_in self.old) }
+        requires flagged { Flagged (circuit_in self.old) self.old.wires self.old.memory.now 0 }
+        ensures same { SameRows self.old self.new }
+        ensures rest { Only (Between 4 4) self.old.wires self.old.memory.now self.new.memory.now }
+        ensures flagged { Flagged (circuit_in self.old) self.old.wires self.new.memory.now self.old.wires }
+    {
+        for wire in 0..self.wires {
+            if let Making::Product(a, b) = self.making(wire) {
+                self.put(Row::Goals, a as usize, 1);
+                self.put(Row::Goals, b as usize, 1);
+            }
+        }
     }
-}
 
-// Flags the operands of all products.
-fn flag_goals(memory: &mut [u32], wires: usize)
-    requires room { Room wires memory.old }
-    requires ordered { Ordered (circuit_of memory.old wires) }
-    requires flagged { Flagged (circuit_of memory.old wires) wires memory.old 0 }
-    ensures rest { Only (Between 4 4) wires memory.old memory.new }
-    ensures flagged { Flagged (circuit_of memory.old wires) wires memory.new wires }
-{
-    for w in 0..wires {
-        flag_wire(memory, wires, w);
+    // The operands that a wire passes on, which are two at most: each is counted and placed alone, and no list of them is needed.
+    fn passed(&self, wire: usize) -> (Option<u32>, Option<u32>)
+        requires { wire < self.now.wires }
+        ensures { Passed (at (circuit_in self.now) wire) result.0 result.1 }
+    {
+        match self.making(wire) {
+            Making::Copy(a) | Making::Inversion(a) => (Some(a), None),
+            Making::Sum(a, b) => (Some(a), Some(b)),
+            _ => (None, None),
+        }
     }
-}
 
-// The operands that a wire made so passes on.
-fn passed(how: Making) -> (Option<u32>, Option<u32>)
-    ensures { Passed how result.0 result.1 }
-{
-    match how {
-        Making::Copy(a) | Making::Inversion(a) => (Some(a), None),
-        Making::Sum(a, b) => (Some(a), Some(b)),
-        _ => (None, None),
+    // Counts one wire more for an operand.
+    fn count_use(&mut self, operand: Option<u32>)
+        requires { Countable self.old.wires self.old.memory.now operand }
+        ensures same { SameRows self.old self.new }
+        ensures rest { Only (Between 5 5) self.old.wires self.old.memory.now self.new.memory.now }
+        ensures counted { (L : Family) (w : ℕ) → Counted self.old.wires self.old.memory.now L → Counted self.old.wires self.new.memory.now (with_use L operand w) }
+    {
+        if let Some(a) = operand {
+            let count = self.get(Row::Lists, a as usize);
+            self.put(Row::Lists, a as usize, count + 1);
+        }
     }
-}
 
-// Counts one wire more for an operand.
-fn count_use(memory: &mut [u32], wires: usize, operand: Option<u32>)
-    requires room { Room wires memory.old }
-    requires operand { Countable wires memory.old operand }
-    ensures rest { Only (Between 5 5) wires memory.old memory.new }
-    ensures counted { (L : Family) (w : ℕ) → Counted wires memory.old L → Counted wires memory.new (with_use L operand w) }
-{
-    if let Some(a) = operand {
-        let count = get(memory, wires, LISTS, a as usize);
-        put(memory, wires, LISTS, a as usize, count + 1);
+    // Counts the wires that each wire feeds.
+    fn count_wires(&mut self)
+        requires ordered { Ordered (circuit_in self.old) }
+        requires counted { Counted self.old.wires self.old.memory.now (fed_below (circuit_in self.old) 0) }
+        ensures same { SameRows self.old self.new }
+        ensures rest { Only (Between 5 5) self.old.wires self.old.memory.now self.new.memory.now }
+        ensures counted { Counted self.old.wires self.new.memory.now (fed_below (circuit_in self.old) self.old.wires) }
+    {
+        for wire in 0..self.wires {
+            let (first, second) = self.passed(wire);
+            self.count_use(first);
+            self.count_use(second);
+        }
     }
-}
 
-// Counts one wire for each operand that it passes on.
-fn count_wire(memory: &mut [u32], wires: usize, wire: usize)
-    requires room { Room wires memory.old }
-    requires ordered { Ordered (circuit_of memory.old wires) }
-    requires wire { wire < wires }
-    requires counted { Counted wires memory.old (fed_below (circuit_of memory.old wires) wire) }
-    ensures rest { Only (Between 5 5) wires memory.old memory.new }
-    ensures counted { Counted wires memory.new (fed_below (circuit_of memory.old wires) (wire + 1)) }
-{
-    let (first, second) = passed(held(memory, wires, wire));
-    count_use(memory, wires, first);
-    count_use(memory, wires, second);
-}
-
-// Counts the wires that each wire feeds.
-fn count_wires(memory: &mut [u32], wires: usize)
-    requires room { Room wires memory.old }
-    requires ordered { Ordered (circuit_of memory.old wires) }
-    requires counted { Counted wires memory.old (fed_below (circuit_of memory.old wires) 0) }
-    ensures rest { Only (Between 5 5) wires memory.old memory.new }
-    ensures counted { Counted wires memory.new (fed_below (circuit_of memory.old wires) wires) }
-{
-    for w in 0..wires {
-        count_wire(memory, wires, w);
+    // Puts in the place of each count where the list begins.
+    fn space_lists(&mut self)
+        requires { Counted self.old.wires self.old.memory.now (fed_below (circuit_in self.old) self.old.wires) }
+        ensures same { SameRows self.old self.new }
+        ensures rest { Only ListRow self.old.wires self.old.memory.now self.new.memory.now }
+        ensures spaced { Spaced self.old.wires self.new.memory.now (fed_below (circuit_in self.old) self.old.wires) self.old.wires }
+    {
+        let mut total: u32 = 0;
+        for wire in 0..self.wires {
+            let count = self.get(Row::Lists, wire);
+            self.put(Row::Lists, wire, total);
+            self.put(Row::Marks, wire, total);
+            total += count;
+        }
     }
-}
 
-// Puts in the place of each count where the list begins.
-fn space_lists(memory: &mut [u32], wires: usize)
-    requires room { Room wires memory.old }
-    requires counted { Counted wires memory.old (fed_below (circuit_of memory.old wires) wires) }
-    ensures rest { Only ListRow wires memory.old memory.new }
-    ensures spaced { Spaced wires memory.new (fed_below (circuit_of memory.old wires) wires) wires }
-{
-    let mut total: u32 = 0;
-    for v in 0..wires {
-        let count = get(memory, wires, LISTS, v);
-        put(memory, wires, LISTS, v, total);
-        put(memory, wires, MARKS, v, total);
-        total += count;
+    // Adds a wire to the list of an operand.
+    fn place_use(&mut self, operand: Option<u32>, wire: u32)
+        requires { Placeable self.old.wires self.old.memory.now operand }
+        ensures same { SameRows self.old self.new }
+        ensures rest { Only PlacedRow self.old.wires self.old.memory.now self.new.memory.now }
+        ensures filled { (A L : Family) → FitsIn self.old.wires A L operand → Filled self.old.wires self.old.memory.now A L → Filled self.old.wires self.new.memory.now A (with_use L operand wire) }
+    {
+        if let Some(a) = operand {
+            let next = self.get(Row::Marks, a as usize);
+            self.memory[Row::Fed.number() * self.wires + next as usize] = wire;
+            self.put(Row::Marks, a as usize, next + 1);
+        }
     }
-}
 
-// Adds a wire to the list of an operand.
-fn place_use(memory: &mut [u32], wires: usize, operand: Option<u32>, wire: u32)
-    requires room { Room wires memory.old }
-    requires operand { Placeable wires memory.old operand }
-    ensures rest { Only (λ r. Between 6 7 r ⊎ (r ≡ 13)) wires memory.old memory.new }
-    ensures filled { (A L : Family) → FitsIn wires A L operand → Filled wires memory.old A L → Filled wires memory.new A (with_use L operand wire) }
-{
-    if let Some(a) = operand {
-        let next = get(memory, wires, MARKS, a as usize);
-        memory[FED * wires + next as usize] = wire;
-        put(memory, wires, MARKS, a as usize, next + 1);
+    // Makes the lists of the wires that each wire feeds.
+    fn place_wires(&mut self)
+        requires ordered { Ordered (circuit_in self.old) }
+        requires filled { Filled self.old.wires self.old.memory.now (fed (circuit_in self.old)) (fed_below (circuit_in self.old) 0) }
+        ensures same { SameRows self.old self.new }
+        ensures rest { Only PlacedRow self.old.wires self.old.memory.now self.new.memory.now }
+        ensures filled { Filled self.old.wires self.new.memory.now (fed (circuit_in self.old)) (fed_below (circuit_in self.old) self.old.wires) }
+    {
+        for wire in 0..self.wires {
+            let (first, second) = self.passed(wire);
+            self.place_use(first, wire as u32);
+            self.place_use(second, wire as u32);
+        }
     }
-}
 
-// Adds a wire to the lists of the operands that it passes on.
-fn place_wire(memory: &mut [u32], wires: usize, wire: usize)
-    requires room { Room wires memory.old }
-    requires ordered { Ordered (circuit_of memory.old wires) }
-    requires wire { wire < wires }
-    requires filled { Filled wires memory.old (fed (circuit_of memory.old wires)) (fed_below (circuit_of memory.old wires) wire) }
-    ensures rest { Only (λ r. Between 6 7 r ⊎ (r ≡ 13)) wires memory.old memory.new }
-    ensures filled { Filled wires memory.new (fed (circuit_of memory.old wires)) (fed_below (circuit_of memory.old wires) (wire + 1)) }
-{
-    let (first, second) = passed(held(memory, wires, wire));
-    place_use(memory, wires, first, wire as u32);
-    place_use(memory, wires, second, wire as u32);
-}
-
-// Makes the lists of the wires that each wire feeds.
-fn place_wires(memory: &mut [u32], wires: usize)
-    requires room { Room wires memory.old }
-    requires ordered { Ordered (circuit_of memory.old wires) }
-    requires filled { Filled wires memory.old (fed (circuit_of memory.old wires)) (fed_below (circuit_of memory.old wires) 0) }
-    ensures rest { Only (λ r. Between 6 7 r ⊎ (r ≡ 13)) wires memory.old memory.new }
-    ensures filled { Filled wires memory.new (fed (circuit_of memory.old wires)) (fed_below (circuit_of memory.old wires) wires) }
-{
-    for w in 0..wires {
-        place_wire(memory, wires, w);
+    // Asks the circuit for its makings, once each, and writes all that a planning needs of it: no bar is set, and nothing flows.
+    pub fn load<C: Circuit>(&mut self, circuit: &C)
+        requires wires { self.old.wires ≡ width (C.meaning circuit.now) }
+        ensures same { SameRows self.old self.new }
+        ensures fresh { FreshLoad (C.meaning circuit.now).makings self.old.wires self.new.memory.now }
+    {
+        self.put_makings(circuit);
+        self.clear(Row::Bars, Row::Marks);
+        self.flag_goals();
+        self.count_wires();
+        self.space_lists();
+        self.place_wires();
     }
-}
-
-// Asks the circuit for its makings, once each, and writes all that a planning needs of it: no bar is set, and nothing flows.
-pub fn load<C: Circuit>(circuit: &C, memory: &mut [u32], wires: usize)
-    requires room { Room wires memory.old }
-    requires wires { wires ≡ width (C.Circuit.meaning circuit.now) }
-    ensures { FreshLoad (C.Circuit.meaning circuit.now).makings wires memory.new }
-{
-    put_makings(circuit, memory, wires);
-    wipe(memory, BARS * wires, MARKS * wires);
-    flag_goals(memory, wires);
-    count_wires(memory, wires);
-    space_lists(memory, wires);
-    place_wires(memory, wires);
 }

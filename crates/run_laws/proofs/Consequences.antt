@@ -1,8 +1,9 @@
 -- What the law of runs says of single calls and of two calls.
-use Rattle.std.proofs.Common.{◌≡◌, ℕ, zero, suc, ◌<◌, ◌≤◌, Bool, true, false, cond, not, ◌&&◌, ◌||◌, eqb, ◌⊎◌, List, [], ◌∷◌, ◌++◌, map, length, get_or, drop, replicate, Some, None, Option, sym, refl, ap, ◌∙◌, subst, ap₂, inl, inr, ⊎_elim, arith}
+use Rattle.std.proofs.Common.{◌≡◌, ℕ, zero, suc, ◌<◌, ◌≤◌, Bool, true, false, cond, not, ◌&&◌, ◌||◌, eqb, ◌⊎◌, List, [], ◌∷◌, ◌++◌, map, length, get_or, drop, replicate, Some, None, Ok, Err, Option, Result, sym, refl, ap, ◌∙◌, subst, ap₂, inl, inr, ⊎_elim, arith}
 use Rattle.std.specs.List.{AllByRecursion}
 use Rattle.std.proofs.ByRecursion.{All-get_or}
 use Rattle.std.proofs.lemmas.Bool.{true≢false, cases_Bool, eqb-true, or_cases, and_parts}
+use Rattle.std.proofs.lemmas.Option.{none-some}
 use Rattle.circuits.specs.Answers.{number_of, first_fault}
 use Rattle.circuits.specs.Levels.{has, produced_at}
 use Rattle.circuits.specs.declared.answer.Refusal.{Refusal}
@@ -14,14 +15,16 @@ use Rattle.routes.proofs.Plans.{earliest_is_one, smallest_is_fewest, blocked_has
 use Rattle.runs.specs.Events.{Event, History, Given, room_of, refused_by_12, set_or_lifted, barred, Epoch, new_epoch, index, after_answer, epoch}
 use Rattle.runs.specs.Law.{is_open, is_blocked, faults, Steps, Obeyed, Answered, Answers, IsAt, RoutesStand, LawfulRun}
 use Rattle.run_laws.specs.Consequences.{of_rank, is_bar, BarredByTheLast, TestedInOrder, Since, Gave, RoutesStayApart, RefusalsAlterNothing, ClosedAfterK, KGrownThenClosed, AnswersAreOne}
-use Rattle.runs.proofs.Common.{bars_stay, both_ways, some≢none}
+use Rattle.runs.proofs.Common.{bars_stay, both_ways}
 use Rattle.run_laws.proofs.Numbers.{one_refusal}
 use Rattle.runs.specs.declared.calls.Call.{Call}
 use Rattle.runs.specs.declared.calls.Answer.{Answer}
 use Rattle.runs.specs.declared.calls.State.{State}
+use Rattle.runs.specs.declared.calls.Stepped.{Stepped}
 use Rattle.runs.specs.declared.calls.Call.TheVariants as call
 use Rattle.runs.specs.declared.calls.Answer.TheVariants as answer
 use Rattle.runs.specs.declared.calls.State.TheVariants as state
+use Rattle.runs.specs.declared.calls.Stepped.TheVariants as stepped
 
 -- one of a list
 abbrev In : Given → List Given → Type 0
@@ -33,14 +36,14 @@ all_in P [] g a i = absurd i
 all_in P (x ∷ xs) g a i = ⊎_elim (λ e. subst P (sym e) a.0) (λ k. all_in P xs g a.1 k) i
 
 -- what was given is kept until a bar or unbar is obeyed
-given_kept : (i : ℕ) (after : List ℕ) (b : Answer) (p : Epoch) (g : Given) → (b ≡ answer.Done → ⊥) → In g p.given → In g (after_answer i after b p).given
-given_kept i after answer.Done p g n k = absurd (n refl)
-given_kept i after answer.Grown p g n k = k
-given_kept i after answer.Closed p g n k = k
-given_kept i after answer.Blocked p g n k = k
-given_kept i after (answer.Planned m) p g n k = k
-given_kept i after (answer.Routed m) p g n k = inr k
-given_kept i after (answer.Refused r) p g n k = k
+given_kept : (i : ℕ) (after : List ℕ) (b : Result Answer Refusal) (p : Epoch) (g : Given) → (b ≡ Ok answer.Done → ⊥) → In g p.given → In g (after_answer i after b p).given
+given_kept i after (Ok answer.Done) p g n k = absurd (n refl)
+given_kept i after (Ok (answer.Stepped stepped.Grown)) p g n k = k
+given_kept i after (Ok (answer.Stepped stepped.Closed)) p g n k = k
+given_kept i after (Ok (answer.Stepped stepped.Blocked)) p g n k = k
+given_kept i after (Ok (answer.Planned m)) p g n k = k
+given_kept i after (Ok (answer.Routed m)) p g n k = inr k
+given_kept i after (Err r) p g n k = k
 
 gave_in : (h : History) (e : Event) (i : ℕ) (r : List ℕ) → Since e h → Gave e i r → In (i, r) (epoch h).given
 gave_in [] e i r s k = absurd s
@@ -93,30 +96,21 @@ routes_stay_apart c (x ∷ h) l e f i j r q s t m n =
     stand_apart c (barred (x ∷ h)) (epoch (x ∷ h)).state (epoch (x ∷ h)).grown (epoch (x ∷ h)).given l.3 i j r q (gave_in (x ∷ h) e i r s m) (gave_in (x ∷ h) f j q t n)
 
 -- an obeyed call does not answer a refusal
-not_refused : (c : List Making) (bars : Wires) (k : ℕ) (a : Call) (m : List ℕ) (b : Answer) (n : List ℕ) (r : Refusal) → Obeyed c bars k a m b n → b ≡ answer.Refused r → ⊥
-not_refused c bars k (call.Bar w) m b n r o e = differ o.0 e
-  where
-    differ : b ≡ answer.Done → b ≡ answer.Refused r → ⊥
-    differ p q = let z : ◌≡◌ {A = ℕ} 0 1 = cc in omega arith
-not_refused c bars k (call.Unbar w) m b n r o e = differ o.0 e
-  where
-    differ : b ≡ answer.Done → b ≡ answer.Refused r → ⊥
-    differ p q = let z : ◌≡◌ {A = ℕ} 0 1 = cc in omega arith
-not_refused c bars k call.Step m b n r o e = subst (Steps c bars k) e o.0
-not_refused c bars k (call.Plan u) m b n r o e = differ (length o.0) o.1 e
-  where
-    differ : (k : ℕ) → b ≡ answer.Planned k → b ≡ answer.Refused r → ⊥
-    differ k p q = let z : ◌≡◌ {A = ℕ} 0 1 = cc in omega arith
-not_refused c bars k (call.Route i u) m b n r o e = differ (length o.0) o.1 e
-  where
-    differ : (k : ℕ) → b ≡ answer.Routed k → b ≡ answer.Refused r → ⊥
-    differ k p q = let z : ◌≡◌ {A = ℕ} 0 1 = cc in omega arith
+ok≢err : {a : Answer} {r : Refusal} → ◌≡◌ {A = Result Answer Refusal} (Ok a) (Err r) → ⊥
+ok≢err e = let z : ◌≡◌ {A = ℕ} 0 1 = cc in omega arith
 
-same_refusal : (r s : Refusal) → answer.Refused r ≡ answer.Refused s → r ≡ s
+not_refused : (c : List Making) (bars : Wires) (k : ℕ) (a : Call) (m : List ℕ) (b : Result Answer Refusal) (n : List ℕ) (r : Refusal) → Obeyed c bars k a m b n → b ≡ Err r → ⊥
+not_refused c bars k (call.Bar w) m b n r o e = ok≢err (sym o.0 ∙ e)
+not_refused c bars k (call.Unbar w) m b n r o e = ok≢err (sym o.0 ∙ e)
+not_refused c bars k call.Step m b n r o e = ok≢err (sym o.1 ∙ e)
+not_refused c bars k (call.Plan u) m b n r o e = ok≢err (sym o.1 ∙ e)
+not_refused c bars k (call.Route i u) m b n r o e = ok≢err (sym o.1 ∙ e)
+
+same_refusal : (r s : Refusal) → ◌≡◌ {A = Result Answer Refusal} (Err r) (Err s) → r ≡ s
 same_refusal r s e = cc
 
 -- a refusal is by the first fault
-by_fault : (c : List Making) (bars : Wires) (k : ℕ) (e : Event) (r : Refusal) (o : Option ℕ) → Answered o c bars k e → e.answer ≡ answer.Refused r
+by_fault : (c : List Making) (bars : Wires) (k : ℕ) (e : Event) (r : Refusal) (o : Option ℕ) → Answered o c bars k e → e.answer ≡ Err r
     → (o ≡ Some (number_of r)) × (e.after ≡ e.before)
 by_fault c bars k e r (Some n) a q = (ap Some (sym a.1 ∙ ap number_of (same_refusal a.0 r (sym a.2 ∙ q))), a.3)
 by_fault c bars k e r None a q = absurd (not_refused c bars k e.call e.before e.answer e.after r a q)
@@ -132,8 +126,8 @@ refusals_alter_nothing c h e r l q =
     )
 
 -- the bars stay until a bar or unbar is obeyed
-bars_kept : (c : List Making) (bars : Wires) (st : State) (k : ℕ) (a : Call) (m : List ℕ) (b : Answer) (n : List ℕ) → (o : Option ℕ) → first_fault (faults c bars st k a) ≡ o
-    → Answered o c bars k (record { call = a; before = m; answer = b; after = n }) → (b ≡ answer.Done → ⊥)
+bars_kept : (c : List Making) (bars : Wires) (st : State) (k : ℕ) (a : Call) (m : List ℕ) (b : Result Answer Refusal) (n : List ℕ) → (o : Option ℕ) → first_fault (faults c bars st k a) ≡ o
+    → Answered o c bars k (record { call = a; before = m; answer = b; after = n }) → (b ≡ Ok answer.Done → ⊥)
     → cond (refused_by_12 b) bars (set_or_lifted a bars) ≡ bars
 bars_kept c bars st k a m b n (Some x) f d u =
     ap (λ b. cond (refused_by_12 b) bars (set_or_lifted a bars)) d.2
@@ -145,31 +139,32 @@ bars_kept c bars st k call.Step m b n None f d u = both_ways (refused_by_12 b) b
 bars_kept c bars st k (call.Plan v) m b n None f d u = both_ways (refused_by_12 b) bars
 bars_kept c bars st k (call.Route i v) m b n None f d u = both_ways (refused_by_12 b) bars
 
--- grown or closed
-abbrev is_stepped : Answer → Bool
-is_stepped answer.Done = false
-is_stepped answer.Grown = true
-is_stepped answer.Closed = true
-is_stepped answer.Blocked = false
-is_stepped (answer.Planned k) = false
-is_stepped (answer.Routed n) = false
-is_stepped (answer.Refused r) = false
+-- that of a step
+abbrev is_stepped : Result Answer Refusal → Bool
+is_stepped (Ok answer.Done) = false
+is_stepped (Ok (answer.Stepped g)) = true
+is_stepped (Ok (answer.Planned k)) = false
+is_stepped (Ok (answer.Routed n)) = false
+is_stepped (Err r) = false
+
+same_step : (g d : Stepped) → ◌≡◌ {A = Result Answer Refusal} (Ok (answer.Stepped g)) (Ok (answer.Stepped d)) → g ≡ d
+same_step g d e = cc
 
 -- only a step that is obeyed answers so
-from_step : (c : List Making) (bars : Wires) (st : State) (k : ℕ) (a : Call) (m : List ℕ) (b : Answer) (n : List ℕ) → (o : Option ℕ) → first_fault (faults c bars st k a) ≡ o
-    → Answered o c bars k (record { call = a; before = m; answer = b; after = n }) → is_stepped b ≡ true
-    → (first_fault (faults c bars st k call.Step) ≡ None) × Steps c bars k b
-from_step c bars st k a m b n (Some x) f d u = absurd (true≢false (sym u ∙ ap is_stepped d.2))
-from_step c bars st k (call.Bar w) m b n None f d u = absurd (true≢false (sym u ∙ ap is_stepped d.0))
-from_step c bars st k (call.Unbar w) m b n None f d u = absurd (true≢false (sym u ∙ ap is_stepped d.0))
-from_step c bars st k call.Step m b n None f d u = (f, d.0)
-from_step c bars st k (call.Plan v) m b n None f d u = absurd (true≢false (sym u ∙ ap is_stepped d.1))
-from_step c bars st k (call.Route i v) m b n None f d u = absurd (true≢false (sym u ∙ ap is_stepped d.1))
+from_step : (c : List Making) (bars : Wires) (st : State) (k : ℕ) (a : Call) (m : List ℕ) (g : Stepped) (n : List ℕ) → (o : Option ℕ) → first_fault (faults c bars st k a) ≡ o
+    → Answered o c bars k (record { call = a; before = m; answer = Ok (answer.Stepped g); after = n })
+    → (first_fault (faults c bars st k call.Step) ≡ None) × Steps c bars k g
+from_step c bars st k a m g n (Some x) f d = absurd (ok≢err d.2)
+from_step c bars st k (call.Bar w) m g n None f d = absurd (true≢false (ap is_stepped d.0))
+from_step c bars st k (call.Unbar w) m g n None f d = absurd (true≢false (ap is_stepped d.0))
+from_step c bars st k call.Step m g n None f d = (f, subst (Steps c bars k) (sym (same_step g d.0 d.1)) d.2)
+from_step c bars st k (call.Plan v) m g n None f d = absurd (true≢false (ap is_stepped d.1))
+from_step c bars st k (call.Route i v) m g n None f d = absurd (true≢false (ap is_stepped d.1))
 
 step_open : (st : State) → first_fault ((not (is_open st), 17) ∷ []) ≡ None → st ≡ state.Closed → ⊥
 step_open state.Open f e = true≢false (ap is_open e)
-step_open state.Closed f e = some≢none 17 f
-step_open state.Blocked f e = some≢none 17 f
+step_open state.Closed f e = none-some 17 (sym f)
+step_open state.Blocked f e = none-some 17 (sym f)
 
 -- smallest plans have as many wires
 same_size : (c : List Making) (bars : Wires) (p q : List ℕ) → Smallest c bars p → Smallest c bars q → length p ≡ length q
@@ -178,33 +173,33 @@ same_size c bars p q f g = omega (arith, ((smallest_is_fewest c bars p).0 f).1 q
 -- the count when closed, by the newest answer
 module _ (c : List Making) (h : History) (a : Call) (m n : List ℕ) (p : List ℕ)
     (before : (epoch h).state ≡ state.Closed → Smallest c (barred h) p → (epoch h).grown ≡ length p) where
-  abbrev AnswersNow : Answer → Type 0
+  abbrev AnswersNow : Result Answer Refusal → Type 0
   AnswersNow b = Answers c (barred h) (epoch h).state (epoch h).grown (record { call = a; before = m; answer = b; after = n })
 
-  abbrev SmallNow : Answer → Type 0
+  abbrev SmallNow : Result Answer Refusal → Type 0
   SmallNow b = Smallest c (cond (refused_by_12 b) (barred h) (set_or_lifted a (barred h))) p
 
-  as_before : (b : Answer) → AnswersNow b → (b ≡ answer.Done → ⊥) → SmallNow b → Smallest c (barred h) p
+  as_before : (b : Result Answer Refusal) → AnswersNow b → (b ≡ Ok answer.Done → ⊥) → SmallNow b → Smallest c (barred h) p
   as_before b l u f =
       subst (λ bars. Smallest c bars p)
       (bars_kept c (barred h) (epoch h).state (epoch h).grown a m b n (first_fault (faults c (barred h) (epoch h).state (epoch h).grown a)) refl l u) f
 
-  stepped_then : (b : Answer) → AnswersNow b → is_stepped b ≡ true
-      → (first_fault (faults c (barred h) (epoch h).state (epoch h).grown call.Step) ≡ None) × Steps c (barred h) (epoch h).grown b
-  stepped_then b l u =
-      from_step c (barred h) (epoch h).state (epoch h).grown a m b n (first_fault (faults c (barred h) (epoch h).state (epoch h).grown a)) refl l u
+  stepped_then : (g : Stepped) → AnswersNow (Ok (answer.Stepped g))
+      → (first_fault (faults c (barred h) (epoch h).state (epoch h).grown call.Step) ≡ None) × Steps c (barred h) (epoch h).grown g
+  stepped_then g l =
+      from_step c (barred h) (epoch h).state (epoch h).grown a m g n (first_fault (faults c (barred h) (epoch h).state (epoch h).grown a)) refl l
 
-  counted : (b : Answer) → AnswersNow b → (after_answer (index a) n b (epoch h)).state ≡ state.Closed → SmallNow b
+  counted : (b : Result Answer Refusal) → AnswersNow b → (after_answer (index a) n b (epoch h)).state ≡ state.Closed → SmallNow b
       → (after_answer (index a) n b (epoch h)).grown ≡ length p
-  counted answer.Done l s f = absurd (true≢false (ap is_open s))
-  counted answer.Grown l s f = absurd (step_open (epoch h).state (stepped_then answer.Grown l refl).0 s)
-  counted answer.Closed l s f =
-      let q : (q : List ℕ) × Smallest c (barred h) q × ((epoch h).grown ≡ length q) = (stepped_then answer.Closed l refl).1.1 in
-      q.2 ∙ same_size c (barred h) q.0 p q.1 (as_before answer.Closed l (λ e. let z : ◌≡◌ {A = ℕ} 0 1 = cc in omega arith) f)
-  counted answer.Blocked l s f = absurd (true≢false (ap is_blocked s))
-  counted (answer.Planned k) l s f = before s (as_before (answer.Planned k) l (λ e. let z : ◌≡◌ {A = ℕ} 0 1 = cc in omega arith) f)
-  counted (answer.Routed k) l s f = before s (as_before (answer.Routed k) l (λ e. let z : ◌≡◌ {A = ℕ} 0 1 = cc in omega arith) f)
-  counted (answer.Refused r) l s f = before s (as_before (answer.Refused r) l (λ e. let z : ◌≡◌ {A = ℕ} 0 1 = cc in omega arith) f)
+  counted (Ok answer.Done) l s f = absurd (true≢false (ap is_open s))
+  counted (Ok (answer.Stepped stepped.Grown)) l s f = absurd (step_open (epoch h).state (stepped_then stepped.Grown l).0 s)
+  counted (Ok (answer.Stepped stepped.Closed)) l s f =
+      let q : (q : List ℕ) × Smallest c (barred h) q × ((epoch h).grown ≡ length q) = (stepped_then stepped.Closed l).1.1 in
+      q.2 ∙ same_size c (barred h) q.0 p q.1 (as_before (Ok (answer.Stepped stepped.Closed)) l (λ e. let z : ◌≡◌ {A = ℕ} 0 1 = cc in omega arith) f)
+  counted (Ok (answer.Stepped stepped.Blocked)) l s f = absurd (true≢false (ap is_blocked s))
+  counted (Ok (answer.Planned k)) l s f = before s (as_before (Ok (answer.Planned k)) l (λ e. let z : ◌≡◌ {A = ℕ} 0 1 = cc in omega arith) f)
+  counted (Ok (answer.Routed k)) l s f = before s (as_before (Ok (answer.Routed k)) l (λ e. let z : ◌≡◌ {A = ℕ} 0 1 = cc in omega arith) f)
+  counted (Err r) l s f = before s (as_before (Err r) l (λ e. let z : ◌≡◌ {A = ℕ} 0 1 = cc in omega arith) f)
 
 pub closed_after_k : ClosedAfterK
 closed_after_k c [] l s p f = absurd (true≢false (ap is_open s))
@@ -212,20 +207,16 @@ closed_after_k c (e ∷ h) l s p f =
     counted c h e.call e.before e.after p (λ s f. closed_after_k c h l.0 s p f) e.answer l.2 s f
 
 -- what a step answers
-what_stepped : (c : List Making) (bars : Wires) (k : ℕ) (b : Answer) → Steps c bars k b
-    → ((b ≡ answer.Grown) × Steps c bars k answer.Grown) ⊎ (((b ≡ answer.Closed) × Steps c bars k answer.Closed) ⊎ ((b ≡ answer.Blocked) × Blocked c bars))
-what_stepped c bars k answer.Done s = absurd s
-what_stepped c bars k answer.Grown s = inl (refl, s)
-what_stepped c bars k answer.Closed s = inr (inl (refl, s))
-what_stepped c bars k answer.Blocked s = inr (inr (refl, s))
-what_stepped c bars k (answer.Planned n) s = absurd s
-what_stepped c bars k (answer.Routed n) s = absurd s
-what_stepped c bars k (answer.Refused r) s = absurd s
+what_stepped : (c : List Making) (bars : Wires) (k : ℕ) (b : Stepped) → Steps c bars k b
+    → ((b ≡ stepped.Grown) × Steps c bars k stepped.Grown) ⊎ (((b ≡ stepped.Closed) × Steps c bars k stepped.Closed) ⊎ ((b ≡ stepped.Blocked) × Blocked c bars))
+what_stepped c bars k stepped.Grown s = inl (refl, s)
+what_stepped c bars k stepped.Closed s = inr (inl (refl, s))
+what_stepped c bars k stepped.Blocked s = inr (inr (refl, s))
 
-not_both_steps : (c : List Making) (bars : Wires) (k : ℕ) → Steps c bars k answer.Grown → Steps c bars k answer.Closed → ⊥
+not_both_steps : (c : List Making) (bars : Wires) (k : ℕ) → Steps c bars k stepped.Grown → Steps c bars k stepped.Closed → ⊥
 not_both_steps c bars k s t = omega (arith, s.1.2, t.1.2, same_size c bars s.1.0 t.1.0 s.1.1 t.1.1)
 
-one_step : (c : List Making) (bars : Wires) (k : ℕ) (b d : Answer) → Steps c bars k b → Steps c bars k d → b ≡ d
+one_step : (c : List Making) (bars : Wires) (k : ℕ) (b d : Stepped) → Steps c bars k b → Steps c bars k d → b ≡ d
 one_step c bars k b d s t =
     ⊎_elim
     (λ p. ⊎_elim (λ q. p.0 ∙ sym q.0) (⊎_elim (λ q. absurd (not_both_steps c bars k p.1 q.1)) (λ q. absurd (p.1.0 q.1))) (what_stepped c bars k d t))
@@ -234,19 +225,19 @@ one_step c bars k b d s t =
     (λ p. ⊎_elim (λ q. absurd (q.1.0 p.1)) (⊎_elim (λ q. absurd (q.1.0 p.1)) (λ q. p.0 ∙ sym q.0)) (what_stepped c bars k d t)))
     (what_stepped c bars k b s)
 
-one_answer : (c : List Making) → Ordered c → (bars : Wires) (k : ℕ) (a : Call) (m : List ℕ) (b d : Answer) (n o : List ℕ) (f : Option ℕ)
+one_answer : (c : List Making) → Ordered c → (bars : Wires) (k : ℕ) (a : Call) (m : List ℕ) (b d : Result Answer Refusal) (n o : List ℕ) (f : Option ℕ)
     → Answered f c bars k (record { call = a; before = m; answer = b; after = n }) → Answered f c bars k (record { call = a; before = m; answer = d; after = o })
     → length m ≡ room_of a
     → ((b ≡ d) × (n ≡ o))
-    ⊎ ((i : ℕ) × (r : List ℕ) × (q : List ℕ) × (a ≡ call.Route i (length m)) × (b ≡ answer.Routed (length r)) × (d ≡ answer.Routed (length q)))
+    ⊎ ((i : ℕ) × (r : List ℕ) × (q : List ℕ) × (a ≡ call.Route i (length m)) × (b ≡ Ok (answer.Routed (length r))) × (d ≡ Ok (answer.Routed (length q))))
 one_answer c ordered bars k a m b d n o (Some f) x y l =
-    inl (x.2 ∙ ap answer.Refused (one_refusal x.0 y.0 (x.1 ∙ sym y.1)) ∙ sym y.2, x.3 ∙ sym y.3)
+    inl (x.2 ∙ ap Err (one_refusal x.0 y.0 (x.1 ∙ sym y.1)) ∙ sym y.2, x.3 ∙ sym y.3)
 one_answer c ordered bars k (call.Bar w) m b d n o None x y l = inl (x.0 ∙ sym y.0, x.1 ∙ sym y.1)
 one_answer c ordered bars k (call.Unbar w) m b d n o None x y l = inl (x.0 ∙ sym y.0, x.1 ∙ sym y.1)
-one_answer c ordered bars k call.Step m b d n o None x y l = inl (one_step c bars k b d x.0 y.0, x.1 ∙ sym y.1)
+one_answer c ordered bars k call.Step m b d n o None x y l = inl (x.1 ∙ ap (λ g. Ok (answer.Stepped g)) (one_step c bars k x.0 y.0 x.2 y.2) ∙ sym y.1, x.3 ∙ sym y.3)
 one_answer c ordered bars k (call.Plan v) m b d n o None x y l =
     let same : x.0 ≡ y.0 = earliest_is_one c ordered bars ones (λ w. omega arith) x.0 y.0 x.3.earliest y.3.earliest in
-    inl (x.1 ∙ ap (λ ps. answer.Planned (length ps)) same ∙ sym y.1, x.2.1 ∙ ap (λ ps. ps ++ drop (length ps) m) same ∙ sym y.2.1)
+    inl (x.1 ∙ ap (λ ps. Ok (answer.Planned (length ps))) same ∙ sym y.1, x.2.1 ∙ ap (λ ps. ps ++ drop (length ps) m) same ∙ sym y.2.1)
 one_answer c ordered bars k (call.Route i v) m b d n o None x y l = inr (i, x.0, y.0, ap (call.Route i) (sym l), x.1, y.1)
 
 pub answers_are_one : AnswersAreOne
@@ -257,7 +248,7 @@ answers_are_one c ordered h a m b d n o l k =
 module _ (c : List Making) (ordered : Ordered c) (h : History) (new : epoch h ≡ new_epoch) (p : List ℕ) (small : Smallest c (barred h) p) where
   -- after m steps that answered grown
   record Grew (steps : History) (m : ℕ) : Type 0 where
-    answers_are : map (λ e. e.answer) steps ≡ replicate m answer.Grown
+    answers_are : map (λ e. e.answer) steps ≡ replicate m (Ok (answer.Stepped stepped.Grown))
     epoch_is : epoch (steps ++ h) ≡ record { state = state.Open; grown = m; given = [] }
     bars_are : barred (steps ++ h) ≡ barred h
 
@@ -265,19 +256,19 @@ module _ (c : List Making) (ordered : Ordered c) (h : History) (new : epoch h �
   not_blocked b = blocked_has_no_plan c ordered (barred h) b p small.fits
 
   next_step : (e : Event) (steps : History) (m : ℕ) → e.call ≡ call.Step → Grew steps m → Answers c (barred (steps ++ h)) (epoch (steps ++ h)).state (epoch (steps ++ h)).grown e
-      → ((e.answer ≡ answer.Grown) × (m < length p)) ⊎ ((e.answer ≡ answer.Closed) × (m ≡ length p))
+      → ((e.answer ≡ Ok (answer.Stepped stepped.Grown)) × (m < length p)) ⊎ ((e.answer ≡ Ok (answer.Stepped stepped.Closed)) × (m ≡ length p))
   next_step e steps m q k a =
       let b : Answers c (barred h) state.Open m e =
       subst (λ z. Answers c (barred h) z.state z.grown e) k.epoch_is
       (subst (λ bars. Answers c bars (epoch (steps ++ h)).state (epoch (steps ++ h)).grown e) k.bars_are a) in
-      let s : Steps c (barred h) m e.answer × (e.after ≡ e.before) =
+      let s : (g : Stepped) × (e.answer ≡ Ok (answer.Stepped g)) × Steps c (barred h) m g × (e.after ≡ e.before) =
       subst (λ z. Answers c (barred h) state.Open m (record { call = z; before = e.before; answer = e.answer; after = e.after })) q b in
       ⊎_elim
-      (λ t. inl (t.0, omega (arith, t.1.1.2, same_size c (barred h) t.1.1.0 p t.1.1.1 small)))
+      (λ t. inl (s.1 ∙ ap (λ g. Ok (answer.Stepped g)) t.0, omega (arith, t.1.1.2, same_size c (barred h) t.1.1.0 p t.1.1.1 small)))
       (⊎_elim
-      (λ t. inr (t.0, omega (arith, t.1.1.2, same_size c (barred h) t.1.1.0 p t.1.1.1 small)))
+      (λ t. inr (s.1 ∙ ap (λ g. Ok (answer.Stepped g)) t.0, omega (arith, t.1.1.2, same_size c (barred h) t.1.1.0 p t.1.1.1 small)))
       (λ t. absurd (not_blocked t.1)))
-      (what_stepped c (barred h) m e.answer s.0)
+      (what_stepped c (barred h) m s.0 s.2)
 
   grew : (steps : History) → AllByRecursion (λ e. e.call ≡ call.Step) steps → LawfulRun c (steps ++ h) → length steps ≤ length p → Grew steps (length steps)
   grew [] a l k = record { answers_are = refl; epoch_is = new; bars_are = refl }
@@ -293,14 +284,14 @@ module _ (c : List Making) (ordered : Ordered c) (h : History) (new : epoch h �
       (next_step e steps (length steps) a.0 b l.2)
 
   closes : (steps : History) → AllByRecursion (λ e. e.call ≡ call.Step) steps → LawfulRun c (steps ++ h) → length steps ≡ suc (length p)
-      → map (λ e. e.answer) steps ≡ answer.Closed ∷ replicate (length p) answer.Grown
+      → map (λ e. e.answer) steps ≡ Ok (answer.Stepped stepped.Closed) ∷ replicate (length p) (Ok (answer.Stepped stepped.Grown))
   closes [] a l k = absurd (omega arith)
   closes (e ∷ steps) a l k =
       let same : length steps ≡ length p = omega arith in
       let b : Grew steps (length steps) = grew steps a.1 l.0 (omega arith) in
       ⊎_elim
       (λ t. absurd (omega (arith, t.1)))
-      (λ t. ap₂ (λ x xs. x ∷ xs) t.0 (b.answers_are ∙ ap (λ n. replicate n answer.Grown) same))
+      (λ t. ap₂ (λ x xs. x ∷ xs) t.0 (b.answers_are ∙ ap (λ n. replicate n (Ok (answer.Stepped stepped.Grown))) same))
       (next_step e steps (length steps) a.0 b l.2)
 
 pub k_grown_then_closed : KGrownThenClosed
@@ -315,9 +306,9 @@ tested_in_order c bars s k (call.Plan n) = refl
 tested_in_order c bars s k (call.Route i n) = refl
 
 -- refused by 12 just where the rank is not of a produced wire
-by_12 : (c : List Making) (bars : Wires) (k : ℕ) (p q : Bool) (x : ℕ) (a : Call) (m : List ℕ) (b : Answer) (n : List ℕ) → eqb x 12 ≡ false
+by_12 : (c : List Making) (bars : Wires) (k : ℕ) (p q : Bool) (x : ℕ) (a : Call) (m : List ℕ) (b : Result Answer Refusal) (n : List ℕ) → eqb x 12 ≡ false
     → Answered (first_fault ((p, 12) ∷ (q, x) ∷ [])) c bars k (record { call = a; before = m; answer = b; after = n })
-    → (Obeyed c bars k a m b n → b ≡ answer.Done) → refused_by_12 b ≡ p
+    → (Obeyed c bars k a m b n → b ≡ Ok answer.Done) → refused_by_12 b ≡ p
 by_12 c bars k true q x a m b n other d done = ap refused_by_12 d.2 ∙ ap (λ y. eqb y 12) d.1
 by_12 c bars k false true x a m b n other d done = ap refused_by_12 d.2 ∙ ap (λ y. eqb y 12) d.1 ∙ other
 by_12 c bars k false false x a m b n other d done = ap refused_by_12 (done d)
@@ -330,16 +321,16 @@ module _ (c : List Making) where
   abbrev unfit : ℕ → Bool
   unfit w = not (produced_at c w)
 
-  bar_12 : (bars : Wires) (st : State) (k v : ℕ) (m : List ℕ) (b : Answer) (n : List ℕ) → Answers c bars st k (record { call = call.Bar v; before = m; answer = b; after = n })
+  bar_12 : (bars : Wires) (st : State) (k v : ℕ) (m : List ℕ) (b : Result Answer Refusal) (n : List ℕ) → Answers c bars st k (record { call = call.Bar v; before = m; answer = b; after = n })
       → refused_by_12 b ≡ unfit v
   bar_12 bars st k v m b n d = by_12 c bars k (unfit v) (bars v) 15 (call.Bar v) m b n refl d (λ o. o.0)
 
-  unbar_12 : (bars : Wires) (st : State) (k v : ℕ) (m : List ℕ) (b : Answer) (n : List ℕ) → Answers c bars st k (record { call = call.Unbar v; before = m; answer = b; after = n })
+  unbar_12 : (bars : Wires) (st : State) (k v : ℕ) (m : List ℕ) (b : Result Answer Refusal) (n : List ℕ) → Answers c bars st k (record { call = call.Unbar v; before = m; answer = b; after = n })
       → refused_by_12 b ≡ unfit v
   unbar_12 bars st k v m b n d = by_12 c bars k (unfit v) (not (bars v)) 16 (call.Unbar v) m b n refl d (λ o. o.0)
 
   -- the bars after one call
-  one_call : (bars : Wires) (st : State) (k : ℕ) (a : Call) (m : List ℕ) (b : Answer) (n : List ℕ) → Answers c bars st k (record { call = a; before = m; answer = b; after = n })
+  one_call : (bars : Wires) (st : State) (k : ℕ) (a : Call) (m : List ℕ) (b : Result Answer Refusal) (n : List ℕ) → Answers c bars st k (record { call = a; before = m; answer = b; after = n })
       → ((w : ℕ) → bars w ≡ true → unfit w ≡ false) → (r : Bool) → refused_by_12 b ≡ r → (w : ℕ) → cond r bars (set_or_lifted a bars) w ≡ true → unfit w ≡ false
   one_call bars st k a m b n d ih true e w x = ih w x
   one_call bars st k (call.Bar v) m b n d ih false e w x =
@@ -358,7 +349,7 @@ module _ (c : List Making) where
   unfit_free h l w u = ⊎_elim (λ x. absurd (true≢false (sym u ∙ barred_fit h l w x))) (λ x. x) (cases_Bool (barred h w))
 
   -- the last bar or unbar of the rank, by the newest call
-  last_call : (bars : Wires) (st : State) (k : ℕ) (a : Call) (m : List ℕ) (b : Answer) (n : List ℕ) → Answers c bars st k (record { call = a; before = m; answer = b; after = n })
+  last_call : (bars : Wires) (st : State) (k : ℕ) (a : Call) (m : List ℕ) (b : Result Answer Refusal) (n : List ℕ) → Answers c bars st k (record { call = a; before = m; answer = b; after = n })
       → ((w : ℕ) → unfit w ≡ true → bars w ≡ false) → (r : Bool) → refused_by_12 b ≡ r → (w : ℕ)
       → cond r bars (set_or_lifted a bars) w ≡ cond (of_rank a w) (is_bar a && not r) (bars w)
   last_call bars st k (call.Bar v) m b n d free r e w = ⊎_elim (λ s. there r e s) (λ s. elsewhere r s) (cases_Bool (eqb w v))

@@ -1,6 +1,7 @@
 -- Refusals by their numbers.
 use Rattle.std.proofs.Common.{◌≡◌, ℕ, ◌-◌, Bool, true, false, cond, List, [], ◌∷◌, get_or, Some, sym, refl, ap, ◌∙◌, subst}
 use Rattle.std.specs.List.{AllByRecursion}
+use Rattle.std.proofs.lemmas.Option.{none-some}
 use Rattle.circuits.specs.Answers.{number_of, first_fault}
 use Rattle.circuits.specs.declared.answer.Refusal.{Refusal}
 use Rattle.circuits.specs.declared.answer.Refusal.TheVariants as refusal
@@ -10,7 +11,6 @@ use Rattle.runs.specs.Law.{faults}
 use Rattle.runs.specs.declared.calls.Call.{Call}
 use Rattle.runs.specs.declared.calls.State.{State}
 use Rattle.runs.specs.declared.calls.Call.TheVariants as call
-use Rattle.runs.proofs.Common.{some≢none}
 
 -- the refusal of a number
 abbrev pub refusal_numbered : ℕ → Refusal
@@ -46,7 +46,7 @@ abbrev Numbered : List (Bool × ℕ) → Type 0
 Numbered fs = AllByRecursion (λ f. number_of (refusal_numbered f.1) ≡ f.1) fs
 
 first_numbered : (fs : List (Bool × ℕ)) → Numbered fs → (n : ℕ) → first_fault fs ≡ Some n → number_of (refusal_numbered n) ≡ n
-first_numbered [] a n e = absurd (some≢none n (sym e))
+first_numbered [] a n e = absurd (none-some n e)
 first_numbered (f ∷ fs) a n e = go f.0 (first_numbered fs a.1 n) e
   where
     same : (m : ℕ) → Some m ≡ Some n → m ≡ n

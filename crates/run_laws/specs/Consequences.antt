@@ -1,5 +1,5 @@
 -- What the law of runs says of single calls and of two calls.
-use Rattle.std.specs.Prelude.{◌≡◌, ℕ, suc, ◌≤◌, Bool, true, false, cond, not, ◌&&◌, ◌⊎◌, List, [], ◌∷◌, ◌++◌, map, length, take, replicate, ◌==◌, ◌≢◌}
+use Rattle.std.specs.Prelude.{◌≡◌, ℕ, suc, ◌≤◌, Bool, true, false, cond, not, ◌&&◌, ◌⊎◌, List, [], ◌∷◌, ◌++◌, map, length, take, replicate, Ok, Err, Result, ◌==◌, ◌≢◌}
 use Rattle.std.specs.List.{AllByRecursion}
 use Rattle.circuits.specs.Levels.{has}
 use Rattle.circuits.specs.declared.answer.Refusal.{Refusal}
@@ -15,6 +15,7 @@ use Rattle.runs.specs.declared.calls.State.{State}
 use Rattle.runs.specs.declared.calls.Call.TheVariants as call
 use Rattle.runs.specs.declared.calls.Answer.TheVariants as answer
 use Rattle.runs.specs.declared.calls.State.TheVariants as state
+use Rattle.runs.specs.declared.calls.Stepped.TheVariants as stepped
 
 -- a bar or an unbar of the rank
 abbrev pub of_rank : Call → ℕ → Bool
@@ -56,11 +57,11 @@ TestedInOrder = (c : List Making) (bars : Wires) (s : State) (k : ℕ) (a : Call
 -- f happened, and no bar or unbar has been obeyed after it
 abbrev pub Since : Event → History → Type 0
 Since f [] = ⊥
-Since f (e ∷ h) = (f ≡ e) ⊎ ((e.answer ≢ answer.Done) × Since f h)
+Since f (e ∷ h) = (f ≡ e) ⊎ ((e.answer ≢ Ok answer.Done) × Since f h)
 
 -- route gave this row under this index
 abbrev pub Gave : Event → ℕ → List ℕ → Type 0
-Gave e i r = (n : ℕ) × (e.call ≡ call.Route i n) × (e.answer ≡ answer.Routed (length r)) × (take (length r) e.after ≡ r)
+Gave e i r = (n : ℕ) × (e.call ≡ call.Route i n) × (e.answer ≡ Ok (answer.Routed (length r))) × (take (length r) e.after ≡ r)
 
 -- until a bar or unbar is obeyed, route gives the same route under the same index, and under others ones that share no unbarred wire with it;
 -- when blocked, one of barred wires
@@ -76,7 +77,7 @@ RoutesStayApart =
 -- nothing that the law reads off a history tells whether a call that was refused was made, and the memory lent to it is as it was
 abbrev pub RefusalsAlterNothing : Type 0
 RefusalsAlterNothing =
-    (c : List Making) (h : History) (e : Event) (r : Refusal) → LawfulRun c (e ∷ h) → e.answer ≡ answer.Refused r
+    (c : List Making) (h : History) (e : Event) (r : Refusal) → LawfulRun c (e ∷ h) → e.answer ≡ Err r
     → (e.after ≡ e.before) × (barred (e ∷ h) ≡ barred h) × (epoch (e ∷ h) ≡ epoch h)
 
 -- when closed, as many steps answered grown as each smallest plan has wires
@@ -91,20 +92,20 @@ KGrownThenClosed =
     (c : List Making) → Ordered c → (h : History) → epoch h ≡ new_epoch
     → (plan : List ℕ) → Smallest c (barred h) plan
     → (steps : History) → AllByRecursion (λ e. e.call ≡ call.Step) steps → LawfulRun c (steps ++ h)
-    → (length steps ≤ length plan → map (λ e. e.answer) steps ≡ replicate (length steps) answer.Grown)
-    × (length steps ≡ suc (length plan) → map (λ e. e.answer) steps ≡ answer.Closed ∷ replicate (length plan) answer.Grown)
+    → (length steps ≤ length plan → map (λ e. e.answer) steps ≡ replicate (length steps) (Ok (answer.Stepped stepped.Grown)))
+    × (length steps ≡ suc (length plan) → map (λ e. e.answer) steps ≡ Ok (answer.Stepped stepped.Closed) ∷ replicate (length plan) (Ok (answer.Stepped stepped.Grown)))
 
 -- the law leaves a call one answer, and the memory one content, but for which routes are given
 abbrev pub AnswersAreOne : Type 0
 AnswersAreOne =
-    (c : List Making) → Ordered c → (h : History) (a : Call) (m : List ℕ) (b d : Answer) (n o : List ℕ)
+    (c : List Making) → Ordered c → (h : History) (a : Call) (m : List ℕ) (b d : Result Answer Refusal) (n o : List ℕ)
     → LawfulRun c (record { call = a; before = m; answer = b; after = n } ∷ h)
     → LawfulRun c (record { call = a; before = m; answer = d; after = o } ∷ h)
     → ((b ≡ d) × (n ≡ o))
-    ⊎ ((i : ℕ) × (r : List ℕ) × (q : List ℕ) × (a ≡ call.Route i (length m)) × (b ≡ answer.Routed (length r)) × (d ≡ answer.Routed (length q)))
+    ⊎ ((i : ℕ) × (r : List ℕ) × (q : List ℕ) × (a ≡ call.Route i (length m)) × (b ≡ Ok (answer.Routed (length r))) × (d ≡ Ok (answer.Routed (length q))))
 
 -- whatever was called, every call has an answer
 abbrev pub RunsGoOn : Type 0
 RunsGoOn =
     (c : List Making) → Ordered c → (h : History) (s : Told) → RunTold c h s → (a : Call) (m : List ℕ) → length m ≡ room_of a
-    → (b : Answer) × (n : List ℕ) × (t : Told) × RunTold c (record { call = a; before = m; answer = b; after = n } ∷ h) t
+    → (b : Result Answer Refusal) × (n : List ℕ) × (t : Told) × RunTold c (record { call = a; before = m; answer = b; after = n } ∷ h) t

@@ -10,7 +10,8 @@ pub fn barred_by_the_last()
 
 // Each call is tested in its order, and a refusal alters nothing.
 pub fn refusals_alter_nothing()
-    ensures { TestedInOrder × RefusalsAlterNothing }
+    ensures order { TestedInOrder }
+    ensures unaltered { RefusalsAlterNothing }
 {}
 
 // Routes that were given stay the same, and apart, until a bar or unbar is obeyed.
@@ -20,7 +21,8 @@ pub fn routes_stay_apart()
 
 // A smallest plan of k wires takes k grown steps and then closed.
 pub fn k_grown_then_closed()
-    ensures { ClosedAfterK × KGrownThenClosed }
+    ensures closed { ClosedAfterK }
+    ensures grown { KGrownThenClosed }
 {}
 
 // The law leaves a call one answer, but for which routes are given.

@@ -10,6 +10,7 @@ use lib.Dec.{eqb}
 use Rattle.std.specs.declared.option.Option.{Option}
 use Rattle.std.specs.declared.option.Option.TheVariants.{Some, None}
 use Rattle.std.proofs.lemmas.List.{take-append-le, take_all}
+use Rattle.std.proofs.lemmas.Option.{none-some}
 use Rattle.std.proofs.lemmas.Bool.{cases_Bool, eqb-true, not-true}
 use Rattle.circuits.specs.Answers.{first_fault}
 use Rattle.circuits.specs.Levels.{produced_at}
@@ -26,19 +27,15 @@ pub read_again : (r before after : List ℕ) → Wrote r before after → take (
 read_again r before after w =
     ap (take (length r)) w.1 ∙ take-append-le (length r) r (drop (length r) before) (omega arith) ∙ take_all (length r) r (omega arith)
 
--- a test that was met is a fault
-pub some≢none : (n : ℕ) → Some n ≡ None → ⊥
-some≢none n e = let z : ◌≡◌ {A = ℕ} 0 1 = cc in omega arith
-
 -- the tests that were passed
 pub passed : (b : Bool) (n : ℕ) (o : Option ℕ) → cond b (Some n) o ≡ None → (b ≡ false) × (o ≡ None)
-passed true n o e = absurd (some≢none n e)
+passed true n o e = absurd (none-some n (sym e))
 passed false n o e = (refl, e)
 
 found : (p q : Bool) (a b n : ℕ) → cond p (Some a) (cond q (Some b) None) ≡ Some n → (a ≡ n) ⊎ ((q ≡ true) × (b ≡ n))
 found true q a b n e = inl (cc)
 found false true a b n e = inr (refl, cc)
-found false false a b n e = absurd (some≢none n (sym e))
+found false false a b n e = absurd (none-some n e)
 
 -- a bar that stands, or does not, stays so
 set_again : (w : ℕ) (bars : Wires) → bars w ≡ true → set_or_lifted (call.Bar w) bars ≡ bars

@@ -3,3 +3,4 @@ pub mod Told
 pub mod Shown
 pub mod Turns
 mod Stepping
+mod Enough

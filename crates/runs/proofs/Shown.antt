@@ -1,7 +1,9 @@
 -- Calls that keep a flow and a search do what is told of routes.
-use Rattle.std.proofs.Common.{◌≡◌, ℕ, zero, suc, ◌+◌, ◌<◌, ◌≤◌, Bool, false, cond, not, ltb, leb, List, [], ◌∷◌, length, get_or, Some, None, Option, sym, refl, ap, ◌∙◌, subst, ap₂, ⊎_elim, add-zero, arith}
+use Rattle.std.proofs.Common.{◌≡◌, ℕ, zero, suc, ◌+◌, ◌<◌, ◌≤◌, Bool, false, cond, not, ltb, leb, List, [], ◌∷◌, length, get_or, Some, None, Option, Result, sym, refl, ap, ◌∙◌, subst, ap₂, ⊎_elim, add-zero, arith}
 use Rattle.std.proofs.lemmas.Bool.{cases_lt, leb-false}
+use Rattle.std.proofs.lemmas.Option.{none-some}
 use Rattle.circuits.specs.Answers.{first_fault}
+use Rattle.circuits.specs.declared.answer.Refusal.{Refusal}
 use Rattle.circuits.specs.declared.making.Making.{Making}
 use Rattle.routes.specs.Routes.{Ordered, Wires}
 use Rattle.routes.specs.Plans.{cost, ones, EarliestSmallest, Blocked}
@@ -19,11 +21,12 @@ use Rattle.runs.specs.Law.{is_open, offered, faults, IsAt}
 use Rattle.runs.specs.Told.{Told, counted, opened, StandApart, StepTold, ObeysTold, DidTold, DoesTold}
 use Rattle.runs.specs.Machine.{Stage, still_open, closed_by, blocked_by, tells, Standing, Begun, StepsTo, Borders, RowsAt, Obeys, Did, Does}
 use Rattle.runs.specs.Shown.{Seen, FlowsDoWhatIsTold}
-use Rattle.runs.proofs.Common.{some≢none, passed}
+use Rattle.runs.proofs.Common.{passed}
 use Rattle.runs.specs.declared.calls.Call.{Call}
 use Rattle.runs.specs.declared.calls.Answer.{Answer}
+use Rattle.runs.specs.declared.calls.Stepped.{Stepped}
 use Rattle.runs.specs.declared.calls.Call.TheVariants as call
-use Rattle.runs.specs.declared.calls.Answer.TheVariants as answer
+use Rattle.runs.specs.declared.calls.Stepped.TheVariants as stepped
 
 traces_at : (x : Flow) (i : ℕ) (rs : List (List ℕ)) → Traces x i rs → (j : ℕ) → j < length rs → Traced x (i + j) (get_or rs j [])
 traces_at x i [] t j h = absurd (omega arith)
@@ -80,14 +83,13 @@ module _ (c : List Making) (ordered : Ordered c) where
   open_seen : (bars : Wires) (x : Flow) (z : Stage) (rs : List (List ℕ)) → Seen c bars x z rs → first_fault ((not (is_open (tells z)), 17) ∷ []) ≡ None
       → Traces x 0 rs × (length rs ≡ value c x) × (0 < value c x → Blocked c bars → ⊥)
   open_seen bars x still_open rs h f = h
-  open_seen bars x (closed_by mark) rs h f = absurd (some≢none 17 f)
-  open_seen bars x (blocked_by r) rs h f = absurd (some≢none 17 f)
+  open_seen bars x (closed_by mark) rs h f = absurd (none-some 17 (sym f))
+  open_seen bars x (blocked_by r) rs h f = absurd (none-some 17 (sym f))
 
-  step_simulated : (s : Standing) (rs : List (List ℕ)) (b : Answer) (u : Standing) → IsFlow c s.bars ones s.flow
+  step_simulated : (s : Standing) (rs : List (List ℕ)) (b : Stepped) (u : Standing) → IsFlow c s.bars ones s.flow
       → Traces s.flow 0 rs × (length rs ≡ value c s.flow) × (0 < value c s.flow → Blocked c s.bars → ⊥) → StepsTo c s b u
       → (qs : List (List ℕ)) × StepTold c (told s rs) b (told u qs) × SeenOf u qs
-  step_simulated s rs answer.Done u flow h d = absurd d
-  step_simulated s rs answer.Grown u flow h d =
+  step_simulated s rs stepped.Grown u flow h d =
       let t : (qs : List (List ℕ)) × Traces u.flow 0 qs × (length qs ≡ value c u.flow) = all_rows u.bars u.flow d.is_flow (value c u.flow) 0 (omega arith) in (
         t.0,
         (
@@ -105,7 +107,7 @@ module _ (c : List Making) (ordered : Ordered c) where
               (t.1, t.2, λ l. subst (λ bars. Blocked c bars → ⊥) (sym d.bars_are) d.not_blocked),
         ),
       )
-  step_simulated s rs answer.Closed u flow h d = (
+  step_simulated s rs stepped.Closed u flow h d = (
     rs,
     (
       not_blocked s.bars s.flow flow d.mark d.closed,
@@ -114,7 +116,7 @@ module _ (c : List Making) (ordered : Ordered c) where
     ),
     subst (λ u. SeenOf u rs) (sym d.now_is) (flow, (h.0, h.1, d.closed)),
   )
-  step_simulated s rs answer.Blocked u flow h d = (
+  step_simulated s rs stepped.Blocked u flow h d = (
     d.row ∷ [],
     (d.row, d.route, d.all_barred, ap (λ s. told s (d.row ∷ [])) d.now_is),
     subst (λ u. SeenOf u (d.row ∷ [])) (sym d.now_is) (flow, (refl, none, d.route, d.all_barred)),
@@ -122,9 +124,6 @@ module _ (c : List Making) (ordered : Ordered c) where
     where
       none : value c s.flow ≡ 0
       none = ⊎_elim (λ l. absurd (h.2 l (d.row, d.route, d.all_barred))) (λ l. omega arith) (cases_lt 0 (value c s.flow))
-  step_simulated s rs (answer.Planned k) u flow h d = absurd d
-  step_simulated s rs (answer.Routed n) u flow h d = absurd d
-  step_simulated s rs (answer.Refused r) u flow h d = absurd d
 
   plan_seen : (bars : Wires) (x : Flow) (z : Stage) (rs : List (List ℕ)) (plan : List ℕ) → IsFlow c bars ones x → Seen c bars x z rs → Borders z plan
       → EarliestSmallest c bars plan
@@ -148,7 +147,7 @@ module _ (c : List Making) (ordered : Ordered c) where
       at_first zero l = refl
       at_first (suc i) l = absurd (omega arith)
 
-  obeyed : (s : Standing) (rs : List (List ℕ)) (a : Call) (before : List ℕ) (b : Answer) (after : List ℕ) (u : Standing) → SeenOf s rs
+  obeyed : (s : Standing) (rs : List (List ℕ)) (a : Call) (before : List ℕ) (b : Result Answer Refusal) (after : List ℕ) (u : Standing) → SeenOf s rs
       → first_fault (faults c s.bars (tells s.stage) (value c s.flow) a) ≡ None → Obeys c s a before b after u
       → (qs : List (List ℕ)) × ObeysTold c (told s rs) a before b after (told u qs) × SeenOf u qs
   obeyed s rs (call.Bar w) before b after u h f d =
@@ -156,9 +155,9 @@ module _ (c : List Making) (ordered : Ordered c) where
   obeyed s rs (call.Unbar w) before b after u h f d =
       ([], (d.0, d.1, begun_told (set_or_lifted (call.Unbar w) s.bars) u d.2), begun_seen (set_or_lifted (call.Unbar w) s.bars) u d.2)
   obeyed s rs call.Step before b after u h f d =
-      let t : (qs : List (List ℕ)) × StepTold c (told s rs) b (told u qs) × SeenOf u qs =
-      step_simulated s rs b u h.0 (open_seen s.bars s.flow s.stage rs h.1 f) d.0 in
-      (t.0, (t.1, d.1), t.2)
+      let t : (qs : List (List ℕ)) × StepTold c (told s rs) d.0 (told u qs) × SeenOf u qs =
+      step_simulated s rs d.0 u h.0 (open_seen s.bars s.flow s.stage rs h.1 f) d.2 in
+      (t.0, (d.0, d.1, t.1, d.3), t.2)
   obeyed s rs (call.Plan n) before b after u h f d =
       (rs, (d.0, d.1, d.2, plan_seen s.bars s.flow s.stage rs d.0 h.0 h.1 d.3, ap (λ s. told s rs) d.4), subst (λ u. SeenOf u rs) (sym d.4) h)
   obeyed s rs (call.Route i n) before b after u h f d = (

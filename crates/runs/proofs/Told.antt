@@ -1,8 +1,10 @@
 -- Every run of calls that do what is told is lawful.
-use Rattle.std.proofs.Common.{◌≡◌, ℕ, ◌<◌, ◌≤◌, true, false, cond, not, eqb, ltb, leb, List, [], ◌∷◌, length, Some, None, Option, sym, refl, ap, ◌∙◌, subst, ap₂, ⊎_elim, arith}
+use Rattle.std.proofs.Common.{◌≡◌, ℕ, ◌<◌, ◌≤◌, true, false, cond, not, eqb, ltb, leb, List, [], ◌∷◌, length, Some, None, Ok, Option, Result, sym, refl, ap, ◌∙◌, subst, ap₂, ⊎_elim, arith}
 use Rattle.std.specs.List.{AllByRecursion}
 use Rattle.std.proofs.lemmas.Bool.{true≢false, cases_lt}
+use Rattle.std.proofs.lemmas.Option.{none-some}
 use Rattle.circuits.specs.Answers.{first_fault}
+use Rattle.circuits.specs.declared.answer.Refusal.{Refusal}
 use Rattle.circuits.specs.declared.making.Making.{Making}
 use Rattle.routes.specs.Routes.{Ordered, Wires, Route}
 use Rattle.routes.specs.Standing.{Apart}
@@ -11,13 +13,15 @@ use Rattle.routes.proofs.Existence.{earliest_exists_unless_blocked, routes_apart
 use Rattle.runs.specs.Events.{Event, History, Given, refused_by_12, set_or_lifted, barred, index, after_answer, epoch}
 use Rattle.runs.specs.Law.{is_open, offered, faults, Steps, Plans, Obeyed, RefusedBy, Answered, Answers, IsAt, RoutesStand, RoutesAt, LawfulRun}
 use Rattle.runs.specs.Told.{Told, counted, opened, StandApart, StepTold, ObeysTold, DidTold, DoesTold, RunTold, new_told, then_told, ToldRunsAreLawful}
-use Rattle.runs.proofs.Common.{read_again, some≢none, passed, bars_stay}
+use Rattle.runs.proofs.Common.{read_again, passed, bars_stay}
 use Rattle.runs.specs.declared.calls.Call.{Call}
 use Rattle.runs.specs.declared.calls.Answer.{Answer}
 use Rattle.runs.specs.declared.calls.State.{State}
+use Rattle.runs.specs.declared.calls.Stepped.{Stepped}
 use Rattle.runs.specs.declared.calls.Call.TheVariants as call
 use Rattle.runs.specs.declared.calls.Answer.TheVariants as answer
 use Rattle.runs.specs.declared.calls.State.TheVariants as state
+use Rattle.runs.specs.declared.calls.Stepped.TheVariants as stepped
 
 -- what stands, and what was given of it
 abbrev pub Held : List Making → Wires → State → List (List ℕ) → List Given → Type 0
@@ -52,47 +56,45 @@ module _ (c : List Making) (ordered : Ordered c) where
 
   plan_told : (bars : Wires) (s : State) (rs : List (List ℕ)) (gs : List Given) (n : ℕ) (plan : List ℕ) → Held c bars s rs gs
       → first_fault (faults c bars s (counted s rs) (call.Plan n)) ≡ None → EarliestSmallest c bars plan → Plans c bars (counted s rs) plan
-  plan_told bars state.Open rs gs n plan h f early = absurd (some≢none 18 f)
+  plan_told bars state.Open rs gs n plan h f early = absurd (none-some 18 (sym f))
   plan_told bars state.Closed rs gs n plan h f early =
       record { earliest = early; as_many = sym (reach bars plan rs early.cheapest h.0 h.1) }
-  plan_told bars state.Blocked rs gs n plan h f early = absurd (some≢none 19 f)
+  plan_told bars state.Blocked rs gs n plan h f early = absurd (none-some 19 (sym f))
 
-  steps : (s : Told) (gs : List Given) (a : Answer) (t : Told) → Held c s.bars state.Open s.routes gs → StepTold c s a t
+  steps : (s : Told) (gs : List Given) (a : Stepped) (t : Told) → Held c s.bars state.Open s.routes gs → StepTold c s a t
       → Steps c s.bars (length s.routes) a
-  steps s gs answer.Done t h d = d
-  steps s gs answer.Grown t h d = (
+  steps s gs stepped.Grown t h d = (
     d.0,
     ⊎_elim (λ b. absurd (d.0 b))
         (λ e. (e.0, e.1.cheapest, omega (arith, d.1.2, bound s.bars e.0 d.1.0 e.1.cheapest d.1.1)))
         (earliest_exists_unless_blocked c ordered s.bars ones),
   )
-  steps s gs answer.Closed t h d = (
+  steps s gs stepped.Closed t h d = (
     d.0,
     ⊎_elim (λ b. absurd (d.0 b))
         (λ e. (e.0, e.1.cheapest, reach s.bars e.0 s.routes e.1.cheapest h.0 d.1))
         (earliest_exists_unless_blocked c ordered s.bars ones),
   )
-  steps s gs answer.Blocked t h d = (d.0, d.1, d.2)
-  steps s gs (answer.Planned k) t h d = d
-  steps s gs (answer.Routed n) t h d = d
-  steps s gs (answer.Refused r) t h d = d
+  steps s gs stepped.Blocked t h d = (d.0, d.1, d.2)
 
   -- a step is obeyed when open
   open_then : (s : State) → first_fault ((not (is_open s), 17) ∷ []) ≡ None → s ≡ state.Open
   open_then state.Open f = refl
-  open_then state.Closed f = absurd (some≢none 17 f)
-  open_then state.Blocked f = absurd (some≢none 17 f)
+  open_then state.Closed f = absurd (none-some 17 (sym f))
+  open_then state.Blocked f = absurd (none-some 17 (sym f))
 
-  obeyed : (s : Told) (gs : List Given) (a : Call) (before : List ℕ) (b : Answer) (after : List ℕ) (t : Told) → Held c s.bars s.state s.routes gs
+  obeyed : (s : Told) (gs : List Given) (a : Call) (before : List ℕ) (b : Result Answer Refusal) (after : List ℕ) (t : Told) → Held c s.bars s.state s.routes gs
       → first_fault (faults c s.bars s.state (counted s.state s.routes) a) ≡ None
       → ObeysTold c s a before b after t → Obeyed c s.bars (counted s.state s.routes) a before b after
   obeyed s gs (call.Bar w) before b after t h f d = (d.0, d.1)
   obeyed s gs (call.Unbar w) before b after t h f d = (d.0, d.1)
   obeyed s gs call.Step before b after t h f d =
       let o : s.state ≡ state.Open = open_then s.state f in (
-        subst (λ z. Steps c s.bars (counted z s.routes) b) (sym o)
-            (steps s gs b t (subst (λ z. Held c s.bars z s.routes gs) o h) d.0),
+        d.0,
         d.1,
+        subst (λ z. Steps c s.bars (counted z s.routes) d.0) (sym o)
+            (steps s gs d.0 t (subst (λ z. Held c s.bars z s.routes gs) o h) d.2),
+        d.3,
       )
   obeyed s gs (call.Plan n) before b after t h f d =
       (d.0, d.1, d.2, plan_told s.bars s.state s.routes gs n d.0 h f d.3)
@@ -136,7 +138,7 @@ module _ (c : List Making) (ordered : Ordered c) where
   opened_held : (bars : Wires) → Held c bars state.Open [] []
   opened_held bars = ((tt, tt), (λ l. absurd (omega arith)), refl)
 
-  begun_next : (h : History) (s : Told) (e : Event) → Holds c h s → e.answer ≡ answer.Done → Holds c (e ∷ h) (opened (set_or_lifted e.call s.bars))
+  begun_next : (h : History) (s : Told) (e : Event) → Holds c h s → e.answer ≡ Ok answer.Done → Holds c (e ∷ h) (opened (set_or_lifted e.call s.bars))
   begun_next h s e k q =
       record {
         bars_are = ap₂ (λ a b. cond (refused_by_12 a) b (set_or_lifted e.call b)) q k.bars_are;
@@ -147,31 +149,30 @@ module _ (c : List Making) (ordered : Ordered c) where
             (sym (ap (λ a. (after_answer (index e.call) e.after a (epoch h)).given) q)) (opened_held (set_or_lifted e.call s.bars));
       }
 
-  abbrev now : Call → List ℕ → Answer → List ℕ → History → History
+  abbrev now : Call → List ℕ → Result Answer Refusal → List ℕ → History → History
   now a before b after h = record { call = a; before = before; answer = b; after = after } ∷ h
 
-  stepped_next : (h : History) (s : Told) (before : List ℕ) (b : Answer) (after : List ℕ) (t : Told) → Holds c h s
+  stepped_next : (h : History) (s : Told) (before : List ℕ) (b : Stepped) (after : List ℕ) (t : Told) → Holds c h s
       → s.state ≡ state.Open → Held c s.bars state.Open s.routes (epoch h).given → (epoch h).grown ≡ length s.routes → StepTold c s b t
-      → Holds c (now call.Step before b after h) t
-  stepped_next h s before answer.Done after t k o u n d = absurd d
-  stepped_next h s before answer.Grown after t k o u n d =
-      subst (λ t. Holds c (now call.Step before answer.Grown after h) t) (sym d.1.3)
+      → Holds c (now call.Step before (Ok (answer.Stepped b)) after h) t
+  stepped_next h s before stepped.Grown after t k o u n d =
+      subst (λ t. Holds c (now call.Step before (Ok (answer.Stepped stepped.Grown)) after h) t) (sym d.1.3)
       record {
         bars_are = k.bars_are;
         state_is = k.state_is ∙ o;
         count_is = omega (arith, n, d.1.2);
         held = (d.1.1, (λ l. d.0), u.2);
       }
-  stepped_next h s before answer.Closed after t k o u n d =
-      subst (λ t. Holds c (now call.Step before answer.Closed after h) t) (sym d.2)
+  stepped_next h s before stepped.Closed after t k o u n d =
+      subst (λ t. Holds c (now call.Step before (Ok (answer.Stepped stepped.Closed)) after h) t) (sym d.2)
       record {
         bars_are = k.bars_are;
         state_is = refl;
         count_is = n;
         held = (u.0, d.1, d.0, subst (λ gs. AllByRecursion (IsAt s.routes) gs) (sym u.2) tt);
       }
-  stepped_next h s before answer.Blocked after t k o u n d =
-      subst (λ t. Holds c (now call.Step before answer.Blocked after h) t) (sym d.3)
+  stepped_next h s before stepped.Blocked after t k o u n d =
+      subst (λ t. Holds c (now call.Step before (Ok (answer.Stepped stepped.Blocked)) after h) t) (sym d.3)
       record {
         bars_are = k.bars_are;
         state_is = refl;
@@ -181,9 +182,6 @@ module _ (c : List Making) (ordered : Ordered c) where
     where
       none : length s.routes ≡ 0
       none = ⊎_elim (λ l. absurd (u.1 l (d.0, d.1, d.2))) (λ l. omega arith) (cases_lt 0 (length s.routes))
-  stepped_next h s before (answer.Planned m) after t k o u n d = absurd d
-  stepped_next h s before (answer.Routed m) after t k o u n d = absurd d
-  stepped_next h s before (answer.Refused r) after t k o u n d = absurd d
 
   given_more : (bars : Wires) (z : State) (rs : List (List ℕ)) (gs : List Given) (i : ℕ) (r : List ℕ) → Held c bars z rs gs → is_open z ≡ false
       → IsAt rs (i, r) → Held c bars z rs ((i, r) ∷ gs)
@@ -191,7 +189,7 @@ module _ (c : List Making) (ordered : Ordered c) where
   given_more bars state.Closed rs gs i r h l d = (h.0, h.1, h.2, (d, h.3))
   given_more bars state.Blocked rs gs i r h l d = (h.0, h.1, h.2, h.3, (subst (λ rs. IsAt rs (i, r)) h.1 d, h.4))
 
-  obeyed_next : (h : History) (s : Told) (a : Call) (before : List ℕ) (b : Answer) (after : List ℕ) (t : Told) → Holds c h s
+  obeyed_next : (h : History) (s : Told) (a : Call) (before : List ℕ) (b : Result Answer Refusal) (after : List ℕ) (t : Told) → Holds c h s
       → first_fault (faults c s.bars s.state (counted s.state s.routes) a) ≡ None → ObeysTold c s a before b after t
       → Holds c (now a before b after h) t
   obeyed_next h s (call.Bar w) before b after t k f d =
@@ -200,15 +198,16 @@ module _ (c : List Making) (ordered : Ordered c) where
       subst (λ t. Holds c (now (call.Unbar w) before b after h) t) (sym d.2) (begun_next h s (record { call = call.Unbar w; before = before; answer = b; after = after }) k d.0)
   obeyed_next h s call.Step before b after t k f d =
       let o : s.state ≡ state.Open = open_then s.state f in
-      stepped_next h s before b after t k o (subst (λ z. Held c s.bars z s.routes (epoch h).given) o k.held)
-      (k.count_is ∙ ap (λ z. counted z s.routes) o) d.0
+      subst (λ b. Holds c (now call.Step before b after h) t) (sym d.1)
+      (stepped_next h s before d.0 after t k o (subst (λ z. Held c s.bars z s.routes (epoch h).given) o k.held)
+      (k.count_is ∙ ap (λ z. counted z s.routes) o) d.2)
   obeyed_next h s (call.Plan n) before b after t k f d =
       subst (λ b. Holds c (now (call.Plan n) before b after h) t) (sym d.1)
-      (subst (λ t. Holds c (now (call.Plan n) before (answer.Planned (length d.0)) after h) t) (sym d.4)
+      (subst (λ t. Holds c (now (call.Plan n) before (Ok (answer.Planned (length d.0))) after h) t) (sym d.4)
       record { bars_are = k.bars_are; state_is = k.state_is; count_is = k.count_is; held = k.held })
   obeyed_next h s (call.Route i n) before b after t k f d =
       subst (λ b. Holds c (now (call.Route i n) before b after h) t) (sym d.1)
-      (subst (λ t. Holds c (now (call.Route i n) before (answer.Routed (length d.0)) after h) t) (sym d.4)
+      (subst (λ t. Holds c (now (call.Route i n) before (Ok (answer.Routed (length d.0))) after h) t) (sym d.4)
       record {
         bars_are = k.bars_are;
         state_is = k.state_is;

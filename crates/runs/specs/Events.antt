@@ -1,19 +1,21 @@
 -- What happens on a planning, and what is read off it.
-use Rattle.std.specs.Prelude.{ℕ, suc, Bool, false, cond, not, ◌&&◌, ◌||◌, List, [], ◌∷◌, take, ◌==◌}
+use Rattle.std.specs.Prelude.{ℕ, suc, Bool, false, cond, not, ◌&&◌, ◌||◌, List, [], ◌∷◌, take, Ok, Err, Result, ◌==◌}
 use Rattle.circuits.specs.Answers.{number_of}
+use Rattle.circuits.specs.declared.answer.Refusal.{Refusal}
 use Rattle.routes.specs.Routes.{Wires}
 use Rattle.runs.specs.declared.calls.Call.{Call}
 use Rattle.runs.specs.declared.calls.Answer.{Answer}
 use Rattle.runs.specs.declared.calls.State.{State}
 use Rattle.runs.specs.declared.calls.Call.TheVariants as call
 use Rattle.runs.specs.declared.calls.Answer.TheVariants as answer
+use Rattle.runs.specs.declared.calls.Stepped.TheVariants as stepped
 use Rattle.runs.specs.declared.calls.State.TheVariants as state
 
--- a call, the memory lent to it as it was before, the answer, and that memory after
+-- a call, the memory lent to it as it was before, the answer or the refusal, and that memory after
 pub record Event : Type 0 where
   pub call : Call
   pub before : List ℕ
-  pub answer : Answer
+  pub answer : Result Answer Refusal
   pub after : List ℕ
 
 -- all that has happened on a planning, the newest first
@@ -29,14 +31,9 @@ room_of (call.Plan n) = n
 room_of (call.Route i n) = n
 
 -- the call was refused by 12: its rank is not that of a produced wire
-abbrev pub refused_by_12 : Answer → Bool
-refused_by_12 answer.Done = false
-refused_by_12 answer.Grown = false
-refused_by_12 answer.Closed = false
-refused_by_12 answer.Blocked = false
-refused_by_12 (answer.Planned k) = false
-refused_by_12 (answer.Routed n) = false
-refused_by_12 (answer.Refused r) = number_of r == 12
+abbrev pub refused_by_12 : Result Answer Refusal → Bool
+refused_by_12 (Ok a) = false
+refused_by_12 (Err r) = number_of r == 12
 
 -- the bars with that of a bar's or unbar's rank set or lifted
 abbrev pub set_or_lifted : Call → Wires → Wires
@@ -74,14 +71,14 @@ index (call.Plan n) = 0
 index (call.Route i n) = i
 
 -- the epoch after an answer, by the index of its call and the memory after it
-abbrev pub after_answer : ℕ → List ℕ → Answer → Epoch → Epoch
-after_answer i after answer.Done p = new_epoch
-after_answer i after answer.Grown p = record { state = p.state; grown = suc p.grown; given = p.given }
-after_answer i after answer.Closed p = record { state = state.Closed; grown = p.grown; given = p.given }
-after_answer i after answer.Blocked p = record { state = state.Blocked; grown = p.grown; given = p.given }
-after_answer i after (answer.Planned k) p = p
-after_answer i after (answer.Routed n) p = record { state = p.state; grown = p.grown; given = (i, take n after) ∷ p.given }
-after_answer i after (answer.Refused r) p = p
+abbrev pub after_answer : ℕ → List ℕ → Result Answer Refusal → Epoch → Epoch
+after_answer i after (Ok answer.Done) p = new_epoch
+after_answer i after (Ok (answer.Stepped stepped.Grown)) p = record { state = p.state; grown = suc p.grown; given = p.given }
+after_answer i after (Ok (answer.Stepped stepped.Closed)) p = record { state = state.Closed; grown = p.grown; given = p.given }
+after_answer i after (Ok (answer.Stepped stepped.Blocked)) p = record { state = state.Blocked; grown = p.grown; given = p.given }
+after_answer i after (Ok (answer.Planned k)) p = p
+after_answer i after (Ok (answer.Routed n)) p = record { state = p.state; grown = p.grown; given = (i, take n after) ∷ p.given }
+after_answer i after (Err r) p = p
 
 -- the epoch of a history
 abbrev pub epoch : History → Epoch

@@ -17,7 +17,7 @@
 --   A call is refused exactly where it is said, by the number that is said,                  `faults`, `Answers`
 --   and a refusal alters nothing.                                                            `RefusedBy`: the memory lent stays; and neither `barred` nor
 --                                                                                            `epoch` is another after a call that was refused
-use Rattle.std.specs.Prelude.{◌≡◌, ℕ, ◌<◌, ◌≤◌, Bool, true, false, not, List, [], ◌∷◌, ◌++◌, length, drop, Some, None, Option, nat_le, nat_lt, slice_index_or}
+use Rattle.std.specs.Prelude.{◌≡◌, ℕ, ◌<◌, ◌≤◌, Bool, true, false, not, List, [], ◌∷◌, ◌++◌, length, drop, Some, None, Ok, Err, Option, Result, nat_le, nat_lt, slice_index_or}
 use Rattle.std.specs.List.{AllByRecursion}
 use Rattle.circuits.specs.Answers.{number_of, first_fault}
 use Rattle.circuits.specs.Levels.{produced_at}
@@ -30,9 +30,11 @@ use Rattle.runs.specs.Events.{Event, History, Given, room_of, barred, epoch}
 use Rattle.runs.specs.declared.calls.Call.{Call}
 use Rattle.runs.specs.declared.calls.Answer.{Answer}
 use Rattle.runs.specs.declared.calls.State.{State}
+use Rattle.runs.specs.declared.calls.Stepped.{Stepped}
 use Rattle.runs.specs.declared.calls.Call.TheVariants as call
 use Rattle.runs.specs.declared.calls.Answer.TheVariants as answer
 use Rattle.runs.specs.declared.calls.State.TheVariants as state
+use Rattle.runs.specs.declared.calls.Stepped.TheVariants as stepped
 
 -- the state is open
 abbrev pub is_open : State → Bool
@@ -66,14 +68,10 @@ Wrote ranks before after = (length ranks ≤ length before) × (after ≡ ranks 
 
 -- what a step answers after k that answered grown: blocked if some route has only barred wires; else grown while the smallest plans have
 -- more than k wires, and closed when they have k
-abbrev pub Steps : List Making → Wires → ℕ → Answer → Type 0
-Steps c bars k answer.Done = ⊥
-Steps c bars k answer.Grown = (Blocked c bars → ⊥) × ((plan : List ℕ) × Smallest c bars plan × (k < length plan))
-Steps c bars k answer.Closed = (Blocked c bars → ⊥) × ((plan : List ℕ) × Smallest c bars plan × (k ≡ length plan))
-Steps c bars k answer.Blocked = Blocked c bars
-Steps c bars k (answer.Planned n) = ⊥
-Steps c bars k (answer.Routed n) = ⊥
-Steps c bars k (answer.Refused r) = ⊥
+abbrev pub Steps : List Making → Wires → ℕ → Stepped → Type 0
+Steps c bars k stepped.Grown = (Blocked c bars → ⊥) × ((plan : List ℕ) × Smallest c bars plan × (k < length plan))
+Steps c bars k stepped.Closed = (Blocked c bars → ⊥) × ((plan : List ℕ) × Smallest c bars plan × (k ≡ length plan))
+Steps c bars k stepped.Blocked = Blocked c bars
 
 -- the ranks are the earliest smallest plan, and as many as steps answered grown
 pub record Plans (c : List Making) (bars : Wires) (k : ℕ) (plan : List ℕ) : Type 0 where
@@ -81,17 +79,17 @@ pub record Plans (c : List Making) (bars : Wires) (k : ℕ) (plan : List ℕ) : 
   pub as_many : length plan ≡ k
 
 -- what a call does that is obeyed; which route is written is said of all that are given, below
-abbrev pub Obeyed : List Making → Wires → ℕ → Call → List ℕ → Answer → List ℕ → Type 0
-Obeyed c bars k (call.Bar w) before a after = (a ≡ answer.Done) × (after ≡ before)
-Obeyed c bars k (call.Unbar w) before a after = (a ≡ answer.Done) × (after ≡ before)
-Obeyed c bars k call.Step before a after = Steps c bars k a × (after ≡ before)
+abbrev pub Obeyed : List Making → Wires → ℕ → Call → List ℕ → Result Answer Refusal → List ℕ → Type 0
+Obeyed c bars k (call.Bar w) before a after = (a ≡ Ok answer.Done) × (after ≡ before)
+Obeyed c bars k (call.Unbar w) before a after = (a ≡ Ok answer.Done) × (after ≡ before)
+Obeyed c bars k call.Step before a after = (g : Stepped) × (a ≡ Ok (answer.Stepped g)) × Steps c bars k g × (after ≡ before)
 Obeyed c bars k (call.Plan n) before a after =
-    (plan : List ℕ) × (a ≡ answer.Planned (length plan)) × Wrote plan before after × Plans c bars k plan
-Obeyed c bars k (call.Route i n) before a after = (r : List ℕ) × (a ≡ answer.Routed (length r)) × Wrote r before after
+    (plan : List ℕ) × (a ≡ Ok (answer.Planned (length plan))) × Wrote plan before after × Plans c bars k plan
+Obeyed c bars k (call.Route i n) before a after = (r : List ℕ) × (a ≡ Ok (answer.Routed (length r))) × Wrote r before after
 
 -- the answer is the refusal of this number, and the memory lent is as it was
 abbrev pub RefusedBy : ℕ → Event → Type 0
-RefusedBy n e = (r : Refusal) × (number_of r ≡ n) × (e.answer ≡ answer.Refused r) × (e.after ≡ e.before)
+RefusedBy n e = (r : Refusal) × (number_of r ≡ n) × (e.answer ≡ Err r) × (e.after ≡ e.before)
 
 -- what a call does, by the first fault that is found
 abbrev pub Answered : Option ℕ → List Making → Wires → ℕ → Event → Type 0

@@ -1,8 +1,9 @@
 -- What each call does to a planning that keeps a flow and what its last search marked.
-use Rattle.std.specs.Prelude.{◌≡◌, ℕ, ◌+◌, Bool, true, List, length, Some, None, Option}
+use Rattle.std.specs.Prelude.{◌≡◌, ℕ, ◌+◌, Bool, true, List, length, Some, None, Ok, Option, Result}
 use Rattle.std.specs.List.{AllByRecursion}
 use Rattle.circuits.specs.Answers.{first_fault}
 use Rattle.circuits.specs.Levels.{has}
+use Rattle.circuits.specs.declared.answer.Refusal.{Refusal}
 use Rattle.circuits.specs.declared.making.Making.{Making}
 use Rattle.routes.specs.Routes.{Wires, Route}
 use Rattle.routes.specs.Ranks.{Ascending}
@@ -15,9 +16,11 @@ use Rattle.runs.specs.Law.{faults, Wrote, RefusedBy}
 use Rattle.runs.specs.declared.calls.Call.{Call}
 use Rattle.runs.specs.declared.calls.Answer.{Answer}
 use Rattle.runs.specs.declared.calls.State.{State}
+use Rattle.runs.specs.declared.calls.Stepped.{Stepped}
 use Rattle.runs.specs.declared.calls.Call.TheVariants as call
 use Rattle.runs.specs.declared.calls.Answer.TheVariants as answer
 use Rattle.runs.specs.declared.calls.State.TheVariants as state
+use Rattle.runs.specs.declared.calls.Stepped.TheVariants as stepped
 
 -- open; closed, with what the last search marked; or blocked, with a route of barred wires
 pub data Stage : Type 0 where
@@ -66,14 +69,10 @@ pub record Blocks (c : List Making) (s t : Standing) : Type 0 where
   pub now_is : t ≡ record { bars = s.bars; flow = s.flow; stage = blocked_by row }
 
 -- a step, by what it answers
-abbrev pub StepsTo : List Making → Standing → Answer → Standing → Type 0
-StepsTo c s answer.Done t = ⊥
-StepsTo c s answer.Grown t = Grows c s t
-StepsTo c s answer.Closed t = Closes c s t
-StepsTo c s answer.Blocked t = Blocks c s t
-StepsTo c s (answer.Planned k) t = ⊥
-StepsTo c s (answer.Routed n) t = ⊥
-StepsTo c s (answer.Refused r) t = ⊥
+abbrev pub StepsTo : List Making → Standing → Stepped → Standing → Type 0
+StepsTo c s stepped.Grown t = Grows c s t
+StepsTo c s stepped.Closed t = Closes c s t
+StepsTo c s stepped.Blocked t = Blocks c s t
 
 -- the list is that of the wires that the search entered and did not leave
 abbrev pub Borders : Stage → List ℕ → Type 0
@@ -88,14 +87,14 @@ RowsAt x (closed_by mark) i r = Traced x i r
 RowsAt x (blocked_by row) i r = r ≡ row
 
 -- a call that is obeyed
-abbrev pub Obeys : List Making → Standing → Call → List ℕ → Answer → List ℕ → Standing → Type 0
-Obeys c s (call.Bar w) before a after t = (a ≡ answer.Done) × (after ≡ before) × Begun c (set_or_lifted (call.Bar w) s.bars) t
-Obeys c s (call.Unbar w) before a after t = (a ≡ answer.Done) × (after ≡ before) × Begun c (set_or_lifted (call.Unbar w) s.bars) t
-Obeys c s call.Step before a after t = StepsTo c s a t × (after ≡ before)
+abbrev pub Obeys : List Making → Standing → Call → List ℕ → Result Answer Refusal → List ℕ → Standing → Type 0
+Obeys c s (call.Bar w) before a after t = (a ≡ Ok answer.Done) × (after ≡ before) × Begun c (set_or_lifted (call.Bar w) s.bars) t
+Obeys c s (call.Unbar w) before a after t = (a ≡ Ok answer.Done) × (after ≡ before) × Begun c (set_or_lifted (call.Unbar w) s.bars) t
+Obeys c s call.Step before a after t = (g : Stepped) × (a ≡ Ok (answer.Stepped g)) × StepsTo c s g t × (after ≡ before)
 Obeys c s (call.Plan n) before a after t =
-    (plan : List ℕ) × (a ≡ answer.Planned (length plan)) × Wrote plan before after × Borders s.stage plan × (t ≡ s)
+    (plan : List ℕ) × (a ≡ Ok (answer.Planned (length plan))) × Wrote plan before after × Borders s.stage plan × (t ≡ s)
 Obeys c s (call.Route i n) before a after t =
-    (r : List ℕ) × (a ≡ answer.Routed (length r)) × Wrote r before after × RowsAt s.flow s.stage i r × (t ≡ s)
+    (r : List ℕ) × (a ≡ Ok (answer.Routed (length r))) × Wrote r before after × RowsAt s.flow s.stage i r × (t ≡ s)
 
 -- a call, by the first fault that is found
 abbrev pub Did : Option ℕ → List Making → Standing → Event → Standing → Type 0

@@ -1,8 +1,7 @@
 ghost use Rattle.std.specs.Prelude.{◌≡◌};
 ghost use Rattle.runs.specs.Events.{room_of};
-ghost use Rattle.runs.specs.Calls.{is_grown, of_bar, of_step, of_plan, of_route};
 
-use circuits::answer::Refusal;
+use std::fmt;
 
 // A call on a planning. Bar and unbar take a rank, route an index; the last number of plan and of route is how many numbers
 // the caller lends to it.
@@ -28,84 +27,49 @@ impl Call {
     }
 }
 
-// What a call answers: done of a bar or unbar; grown, closed or blocked of a step; of plan and route how many ranks were written.
-#[derive(Clone, Copy, PartialEq, Eq, Debug)]
-pub enum Answer {
-    Done,
-    Grown,
-    Closed,
-    Blocked,
-    Planned(usize),
-    Routed(usize),
-    Refused(Refusal),
-}
-
-impl Answer {
-    // Whether a step grew.
-    pub fn is_grown(self) -> bool
-        ensures { result ≡ is_grown self }
-    {
+impl fmt::Display for Call {
+    fn fmt<W: fmt::Write>(&self, f: &mut fmt::Formatter<W>) -> fmt::Result {
         match self {
-            Answer::Grown => true,
-            _ => false,
+            Call::Bar(rank) => write!(f, "bar {rank}"),
+            Call::Unbar(rank) => write!(f, "unbar {rank}"),
+            Call::Step => f.write_str("step"),
+            Call::Plan(room) => write!(f, "plan, room for {room}"),
+            Call::Route(index, room) => write!(f, "route {index}, room for {room}"),
         }
     }
-
-    // The answer of bar and of unbar.
-    pub fn of_bar(res: Result<(), Refusal>) -> Answer
-        ensures { result ≡ of_bar res }
-    {
-        match res {
-            Ok(()) => Answer::Done,
-            Err(refusal) => Answer::Refused(refusal),
-        }
-    }
-
-    // The answer of step.
-    pub fn of_step(res: Result<Stepped, Refusal>) -> Answer
-        ensures { result ≡ of_step res }
-    {
-        match res {
-            Ok(Stepped::Grown) => Answer::Grown,
-            Ok(Stepped::Closed) => Answer::Closed,
-            Ok(Stepped::Blocked) => Answer::Blocked,
-            Err(refusal) => Answer::Refused(refusal),
-        }
-    }
-
-    // The answer of plan, with how many ranks it wrote.
-    pub fn of_plan(res: Result<usize, Refusal>) -> Answer
-        ensures { result ≡ of_plan res }
-    {
-        match res {
-            Ok(count) => Answer::Planned(count),
-            Err(refusal) => Answer::Refused(refusal),
-        }
-    }
-
-    // The answer of route, with how many ranks it wrote.
-    pub fn of_route(res: Result<usize, Refusal>) -> Answer
-        ensures { result ≡ of_route res }
-    {
-        match res {
-            Ok(length) => Answer::Routed(length),
-            Err(refusal) => Answer::Refused(refusal),
-        }
-    }
-}
-
-// What a planning tells of itself.
-#[derive(Clone, Copy, PartialEq, Eq, Debug)]
-pub enum State {
-    Open,
-    Closed,
-    Blocked,
 }
 
 // What a step that is obeyed answers.
 #[derive(Clone, Copy, PartialEq, Eq, Debug)]
 pub enum Stepped {
     Grown,
+    Closed,
+    Blocked,
+}
+
+impl fmt::Display for Stepped {
+    fn fmt<W: fmt::Write>(&self, f: &mut fmt::Formatter<W>) -> fmt::Result {
+        f.write_str(match self {
+            Stepped::Grown => "grown",
+            Stepped::Closed => "closed",
+            Stepped::Blocked => "blocked",
+        })
+    }
+}
+
+// What a call answers that is obeyed: a bar or an unbar that it is done, a step how it went, plan and route how many ranks were written.
+#[derive(Clone, Copy, PartialEq, Eq, Debug)]
+pub enum Answer {
+    Done,
+    Stepped(Stepped),
+    Planned(usize),
+    Routed(usize),
+}
+
+// What a planning tells of itself.
+#[derive(Clone, Copy, PartialEq, Eq, Debug)]
+pub enum State {
+    Open,
     Closed,
     Blocked,
 }

@@ -6,38 +6,21 @@ ghost use Rattle.runs.specs.Law.{LawfulRun};
 ghost use Rattle.runs.specs.Told.{opened};
 ghost use Rattle.runs.specs.Calls.{Called, Came, rooms, ran, run_faults, refused_by, IfObeyed, IfRefused};
 
-use crate::calls::{Answer, Call, Stepped};
+use crate::calls::{Answer, Call};
 use crate::planner::Planner;
 use circuits::answer::Refusal;
 
 // One call, with the room lent to it.
-fn one<P: Planner>(planning: &mut P, call: Call, out: &mut [u32]) -> Answer
+fn one<P: Planner>(planning: &mut P, call: Call, out: &mut [u32]) -> Result<Answer, Refusal>
     requires { length out.old ≡ room_of call }
-    ensures { Called (P.Planner.circuit planning.old) (P.Planner.shows planning.old) call out.old result out.new (P.Planner.circuit planning.new) (P.Planner.shows planning.new) }
+    ensures { Called P.circuit P.shows planning.old call out.old result out.new planning.new }
 {
     match call {
-        Call::Bar(rank) => match planning.bar(rank) {
-            Ok(_) => Answer::Done,
-            Err(r) => Answer::Refused(r),
-        },
-        Call::Unbar(rank) => match planning.unbar(rank) {
-            Ok(_) => Answer::Done,
-            Err(r) => Answer::Refused(r),
-        },
-        Call::Step => match planning.step() {
-            Ok(Stepped::Grown) => Answer::Grown,
-            Ok(Stepped::Closed) => Answer::Closed,
-            Ok(Stepped::Blocked) => Answer::Blocked,
-            Err(r) => Answer::Refused(r),
-        },
-        Call::Plan(_) => match planning.plan(out) {
-            Ok(k) => Answer::Planned(k),
-            Err(r) => Answer::Refused(r),
-        },
-        Call::Route(index, _) => match planning.route(index, out) {
-            Ok(n) => Answer::Routed(n),
-            Err(r) => Answer::Refused(r),
-        },
+        Call::Bar(rank) => planning.bar(rank).map(|()| Answer::Done),
+        Call::Unbar(rank) => planning.unbar(rank).map(|()| Answer::Done),
+        Call::Step => planning.step().map(Answer::Stepped),
+        Call::Plan(_) => planning.plan(out).map(Answer::Planned),
+        Call::Route(index, _) => planning.route(index, out).map(Answer::Routed),
     }
 }
 
@@ -45,53 +28,52 @@ fn one<P: Planner>(planning: &mut P, call: Call, out: &mut [u32]) -> Answer
 pub fn enough(calls: &[Call], numbers: usize) -> bool
     ensures { result ≡ nat_le (rooms calls.now) numbers }
 {
-    let mut left = numbers;
-    for call in calls {
-        let n = call.room();
-        if n > left {
-            return false;
-        }
-        left -= n;
-    }
-    true
+    calls
+        .iter()
+        .try_fold(numbers, |left, call| left.checked_sub(call.room()))
+        .is_some()
 }
 
 // The calls, one after another, each lent the next part of the room.
-fn run_all<P: Planner>(planning: &mut P, calls: &[Call], room: &mut [u32], answers: &mut [Answer])
-    requires { (length answers.old ≡ length calls.now) × (rooms calls.now ≤ length room.old) }
-    ensures same { P.Planner.circuit planning.new ≡ P.Planner.circuit planning.old }
+fn run_all<P: Planner>(
+    planning: &mut P,
+    calls: &[Call],
+    room: &mut [u32],
+    answers: &mut [Result<Answer, Refusal>],
+)
+    requires as_many { length answers.old ≡ length calls.now }
+    requires enough { rooms calls.now ≤ length room.old }
+    ensures same { P.circuit planning.new ≡ P.circuit planning.old }
     ensures rest { drop (rooms calls.now) room.new ≡ drop (rooms calls.now) room.old }
-    ensures continued { (h : History) → Came (P.Planner.circuit planning.old) (P.Planner.shows planning.old) h → Came (P.Planner.circuit planning.old) (P.Planner.shows planning.new) (ran calls.now answers.new room.old room.new ++ h) }
+    ensures continued { (h : History) → Came (P.circuit planning.old) (P.shows planning.old) h → Came (P.circuit planning.old) (P.shows planning.new) (ran calls.now answers.new room.old room.new ++ h) }
 {
+    // The room and the answers go by place: after `zip` with `iter_mut`, or `split_at_mut` in a loop, the check knows nothing of what was lent.
     let mut at = 0;
-    for j in 0..calls.len() {
-        let call = calls[j];
+    for (j, call) in calls.iter().enumerate() {
         let n = call.room();
-        let answer = one(planning, call, &mut room[at..at + n]);
+        let answer = one(planning, *call, &mut room[at..at + n]);
         answers[j] = answer;
         at += n;
     }
 }
 
 // Runs a list of calls on a planning, each call of plan and route lent the next part of the room, and hands back each answer. It refuses
-// answers that are not as many as the calls, and a room shorter than the calls are lent in all.
+// answers that are not as many as the calls, and a room shorter than the calls are lent in all. Calls are only read, so the answers lie in a
+// slice of their own.
 pub fn run<P: Planner>(
     planning: &mut P,
     calls: &[Call],
     room: &mut [u32],
-    answers: &mut [Answer],
+    answers: &mut [Result<Answer, Refusal>],
 ) -> Result<(), Refusal>
     ensures refused { refused_by result ≡ first_fault (run_faults calls.now room.old answers.old) }
     ensures unaltered { IfRefused result ((planning.new ≡ planning.old) × (room.new ≡ room.old) × (answers.new ≡ answers.old)) }
-    ensures same { P.Planner.circuit planning.new ≡ P.Planner.circuit planning.old }
+    ensures same { P.circuit planning.new ≡ P.circuit planning.old }
     ensures rest { drop (rooms calls.now) room.new ≡ drop (rooms calls.now) room.old }
-    ensures lawful { IfObeyed result (Ordered (P.Planner.circuit planning.old) → P.Planner.shows planning.old (opened (λ w. false)) → LawfulRun (P.Planner.circuit planning.old) (ran calls.now answers.new room.old room.new)) }
-    ensures continued { IfObeyed result ((h : History) → Came (P.Planner.circuit planning.old) (P.Planner.shows planning.old) h → Came (P.Planner.circuit planning.old) (P.Planner.shows planning.new) (ran calls.now answers.new room.old room.new ++ h)) }
+    ensures lawful { IfObeyed result (Ordered (P.circuit planning.old) → P.shows planning.old (opened (λ w. false)) → LawfulRun (P.circuit planning.old) (ran calls.now answers.new room.old room.new)) }
+    ensures continued { IfObeyed result ((h : History) → Came (P.circuit planning.old) (P.shows planning.old) h → Came (P.circuit planning.old) (P.shows planning.new) (ran calls.now answers.new room.old room.new ++ h)) }
 {
-    if answers.len() != calls.len() {
-        return Err(Refusal::MemoryTooShort);
-    }
-    if !enough(calls, room.len()) {
+    if answers.len() != calls.len() || !enough(calls, room.len()) {
         return Err(Refusal::MemoryTooShort);
     }
     run_all(planning, calls, room, answers);

@@ -1,26 +1,29 @@
 ghost use Rattle.runs.specs.Steps.{SteppedOn};
 
-use crate::calls::Answer;
+use crate::calls::Stepped;
 use crate::planner::Planner;
+use circuits::answer::Refusal;
 
-// How a row of steps went: so many grew, and then one answered otherwise, or none did.
+// How a row of steps went: so many grew, and then one did not, or all did. The law counts those that grew whichever it was, so that both are told.
 #[derive(Clone, Copy, PartialEq, Eq, Debug)]
 pub struct Steps {
     pub grown: usize,
-    pub last: Option<Answer>,
+    pub last: Option<Result<Stepped, Refusal>>,
 }
 
-// Steps until a step does not grow, at most so many times.
+// Steps until a step does not grow, at most so many times. A loop, since how many turns there were is part of the answer.
 pub fn step_on<P: Planner>(planning: &mut P, most: usize) -> Steps
-    ensures { SteppedOn (P.Planner.circuit planning.old) (P.Planner.shows planning.old) most result (P.Planner.circuit planning.new) (P.Planner.shows planning.new) }
+    ensures { SteppedOn P.circuit P.shows planning.old most result planning.new }
 {
     for grown in 0..most {
-        let last = Answer::of_step(planning.step());
-        if !last.is_grown() {
-            return Steps {
-                grown,
-                last: Some(last),
-            };
+        match planning.step() {
+            Ok(Stepped::Grown) => {}
+            last => {
+                return Steps {
+                    grown,
+                    last: Some(last),
+                };
+            }
         }
     }
     Steps {

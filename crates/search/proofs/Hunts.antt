@@ -1,36 +1,18 @@
 -- The loop of a hunt, and what the end of a hunt says to a caller.
-use Rattle.std.proofs.Common.{◌≡◌, ℕ, ◌+◌, ◌*◌, ◌<◌, Bool, true, false, List, take, sym, refl, ap, ◌∙◌, subst, ⊎_elim, arith}
-use Rattle.std.proofs.lemmas.Bool.{cases_eq}
-use Rattle.search.specs.Graphs.{Meaning, Reaches, Inside}
+use Rattle.std.proofs.Common.{◌≡◌, ℕ, ◌+◌, ◌*◌, ◌<◌, Bool, List, take, Option, Some, None, sym, refl, subst, ⊎_elim, arith}
+use Rattle.search.specs.Graphs.{Meaning, goalless, Reaches, Inside}
 use Rattle.search.specs.Graphs.Reaches.{start, onward}
 use Rattle.search.specs.Rows.{mark, Kept}
 use Rattle.search.specs.Searches.{Fresh, Done, Served, ReachesPast, Stopped, Exhausted, Marked, Missed, Ends}
 use Rattle.search.specs.Searches.ReachesPast.{start_past, onward_past}
-use Rattle.search.specs.Walks.{Clear, Walk, sought, On, Hit, Hunted}
-use Rattle.search.specs.declared.Outcome.{Outcome}
-use Rattle.search.specs.declared.Outcome.TheVariants.{Found, Nothing}
-use Rattle.search.proofs.Walks.{walk_trans}
+use Rattle.search.specs.Walks.{Clear, Walk, Hit, Hunted}
+use Rattle.search.specs.declared.Found.{Found}
 use Rattle.search.proofs.Writes.{kept_trans}
 
--- the walk goes on from m₂, after which some walk led from there
-pub walked : (t : Meaning) (seek : Bool) (base n : ℕ) (m m₂ m₃ : List ℕ) (h : ℕ) → Inside n (t.steps (take base m))
-    → On t seek base n (take base m) m m₂ 0 → On t seek base n (take base m₂) m₂ m₃ h → On t seek base n (take base m) m m₃ h
-walked t seek base n m m₂ m₃ h ins w v =
-    walk_trans _ _ _ base n m m₂ m₃ h ins w (subst (λ f. On t seek base n f m₂ m₃ h) w.kept.front v)
-
-pub served_more : (t : Meaning) (seek : Bool) (base n : ℕ) (m m₂ m₃ : List ℕ) (h from s : ℕ)
-    → On t seek base n (take base m) m m₂ 0 → On t seek base n (take base m₂) m₂ m₃ h → s < n
-    → Served (t.chosen (take base m)) base m₂ from s → (t.chosen (take base m₂) s ≡ true → 0 < mark base m₃ s) → Served (t.chosen (take base m)) base m₃ from (s + 1)
-served_more t seek base n m m₂ m₃ h from s w v inside before here p low high yes! =
-    ⊎_elim
-    (λ (e : p ≡ s). subst (λ x. 0 < mark base m₃ x) (sym e) (here (ap (λ f. t.chosen f s) w.kept.front ∙ ap (t.chosen (take base m)) (sym e) ∙ yes!)))
-    (λ (ne : p ≡ s → ⊥). v.spread.stays p (omega arith) (before p low (omega arith) yes!))
-    (cases_eq p s)
-
 -- a walk that stands at a goal has a path to it
-stopped : (t : Meaning) (seek : Bool) (base n : ℕ) (m₀ m : List ℕ) (from h next : ℕ) → Hit t seek base n m₀ m from h next
-    → let f = take base m₀ in Stopped (t.steps f) (sought seek (t.goal f)) (t.chosen f) base n (mark base m₀) m from h next
-stopped t seek base n m₀ m from h next x =
+stopped : (t : Meaning) (base n : ℕ) (m₀ m : List ℕ) (from h next : ℕ) → Hit t base n m₀ m from h next
+    → let f = take base m₀ in Stopped (t.steps f) (t.goal f) (t.chosen f) base n (mark base m₀) m from h next
+stopped t base n m₀ m from h next x =
     let w = x.arrived.walk in
     record {
       reached = record { some = x.arrived.some; below = w.stack.below; path = w.path; last = x.arrived.last };
@@ -94,26 +76,26 @@ module _ (lists : List (List ℕ)) (goal chosen : ℕ → Bool) (base n : ℕ) (
         }
 
 -- what a hunt from clear marks says
-abbrev pub Begins : Meaning → Bool → ℕ → ℕ → List ℕ → List ℕ → Outcome → Type 0
-Begins t seek base n m m₂ o =
+abbrev pub Begins : Meaning → ℕ → ℕ → List ℕ → List ℕ → Option Found → Type 0
+Begins t base n m m₂ o =
     let f = take base m in
     Kept base (base + 3 * n) m m₂
-    × Ends (λ h next. Stopped (t.steps f) (sought seek (t.goal f)) (t.chosen f) base n (λ _. 0) m₂ 0 h next)
-    (Missed (t.steps f) (sought seek (t.goal f)) (t.chosen f) base n m₂) o
+    × Ends (λ h next. Stopped (t.steps f) (t.goal f) (t.chosen f) base n (λ _. 0) m₂ 0 h next)
+    (Missed (t.steps f) (t.goal f) (t.chosen f) base n m₂) o
 
-begins : (t : Meaning) (seek : Bool) (base n : ℕ) (m m₁ m₂ : List ℕ) → Inside n (t.steps (take base m)) → Kept base (base + 3 * n) m m₁ → Clear base n m₁
-    → (o : Outcome) → Hunted t seek base n m₁ m₂ 0 o → Begins t seek base n m m₂ o
-begins t seek base n m m₁ m₂ ins kept clear (Found h next) x =
-    subst (λ f. Kept base (base + 3 * n) m m₂ × Stopped (t.steps f) (sought seek (t.goal f)) (t.chosen f) base n (λ _. 0) m₂ 0 h next) kept.front (
+begins : (t : Meaning) (base n : ℕ) (m m₁ m₂ : List ℕ) → Inside n (t.steps (take base m)) → Kept base (base + 3 * n) m m₁ → Clear base n m₁
+    → (o : Option Found) → Hunted t base n m₁ m₂ 0 o → Begins t base n m m₂ o
+begins t base n m m₁ m₂ ins kept clear (Some e) x =
+    subst (λ f. Kept base (base + 3 * n) m m₂ × Stopped (t.steps f) (t.goal f) (t.chosen f) base n (λ _. 0) m₂ 0 e.length e.next) kept.front (
       kept_trans base (base + 3 * n) m m₁ m₂ kept x.arrived.walk.kept,
-      stopped_clear _ _ _ base n m₁ m₂ clear 0 h next (stopped t seek base n m₁ m₂ 0 h next x),
+      stopped_clear _ _ _ base n m₁ m₂ clear 0 e.length e.next (stopped t base n m₁ m₂ 0 e.length e.next x),
     )
-begins t seek base n m m₁ m₂ ins kept clear Nothing x =
+begins t base n m m₁ m₂ ins kept clear None x =
     let f₁ = take base m₁ in
     let ins₁ : Inside n (t.steps f₁) = subst (λ f. Inside n (t.steps f)) (sym kept.front) ins in
-    subst (λ f. Kept base (base + 3 * n) m m₂ × Missed (t.steps f) (sought seek (t.goal f)) (t.chosen f) base n m₂) kept.front (
+    subst (λ f. Kept base (base + 3 * n) m m₂ × Missed (t.steps f) (t.goal f) (t.chosen f) base n m₂) kept.front (
       kept_trans base (base + 3 * n) m m₁ m₂ kept x.0.kept,
-      missed (t.steps f₁) (sought seek (t.goal f₁)) (t.chosen f₁) base n m₁ m₂ clear ins₁ (exhausted _ _ _ base n m₁ m₂ 0 ins₁ x.0 x.1),
+      missed (t.steps f₁) (t.goal f₁) (t.chosen f₁) base n m₁ m₂ clear ins₁ (exhausted _ _ _ base n m₁ m₂ 0 ins₁ x.0 x.1),
     )
 
 -- where base and n are the graph's
@@ -121,31 +103,31 @@ inside_at : (t : Meaning) (base n : ℕ) (m : List ℕ) → Inside t.many (t.ste
 inside_at t base n m ins e d =
     subst (λ y. Inside n (t.steps (take y m))) (sym e) (subst (λ y. Inside y (t.steps (take t.extent m))) (sym d) ins)
 
-pub begins_at : (t : Meaning) (seek : Bool) (base n : ℕ) (m m₁ m₂ : List ℕ) → Inside t.many (t.steps (take t.extent m)) → base ≡ t.extent → n ≡ t.many
-    → Kept base (base + 3 * n) m m₁ → Clear base n m₁ → (o : Outcome) → Hunted t seek base n m₁ m₂ 0 o → Begins t seek t.extent t.many m m₂ o
-begins_at t seek base n m m₁ m₂ ins e d kept clear o x =
-    subst (λ y. Begins t seek t.extent y m m₂ o) d
-    (subst (λ y. Begins t seek y n m m₂ o) e (begins t seek base n m m₁ m₂ (inside_at t base n m ins e d) kept clear o x))
+pub begins_at : (t : Meaning) (base n : ℕ) (m m₁ m₂ : List ℕ) → Inside t.many (t.steps (take t.extent m)) → base ≡ t.extent → n ≡ t.many
+    → Kept base (base + 3 * n) m m₁ → Clear base n m₁ → (o : Option Found) → Hunted t base n m₁ m₂ 0 o → Begins t t.extent t.many m m₂ o
+begins_at t base n m m₁ m₂ ins e d kept clear o x =
+    subst (λ y. Begins t t.extent y m m₂ o) d
+    (subst (λ y. Begins t y n m m₂ o) e (begins t base n m m₁ m₂ (inside_at t base n m ins e d) kept clear o x))
 
 -- what a hunt from any marks says
-abbrev pub GoesOn : Meaning → ℕ → ℕ → List ℕ → List ℕ → ℕ → Outcome → Type 0
+abbrev pub GoesOn : Meaning → ℕ → ℕ → List ℕ → List ℕ → ℕ → Option Found → Type 0
 GoesOn t base n m m₂ from o =
     let f = take base m in
     Kept base (base + 3 * n) m m₂
     × Ends (λ h next. Stopped (t.steps f) (t.goal f) (t.chosen f) base n (mark base m) m₂ from h next)
     (Exhausted (t.steps f) (t.goal f) (t.chosen f) base n (mark base m) m₂ from) o
 
-goes_on : (t : Meaning) (base n : ℕ) (m m₂ : List ℕ) (from : ℕ) → Inside n (t.steps (take base m)) → (o : Outcome) → Hunted t true base n m m₂ from o → GoesOn t base n m m₂ from o
-goes_on t base n m m₂ from ins (Found h next) x = (x.arrived.walk.kept, stopped t true base n m m₂ from h next x)
-goes_on t base n m m₂ from ins Nothing x = (x.0.kept, exhausted _ _ _ base n m m₂ from ins x.0 x.1)
+goes_on : (t : Meaning) (base n : ℕ) (m m₂ : List ℕ) (from : ℕ) → Inside n (t.steps (take base m)) → (o : Option Found) → Hunted t base n m m₂ from o → GoesOn t base n m m₂ from o
+goes_on t base n m m₂ from ins (Some e) x = (x.arrived.walk.kept, stopped t base n m m₂ from e.length e.next x)
+goes_on t base n m m₂ from ins None x = (x.0.kept, exhausted _ _ _ base n m m₂ from ins x.0 x.1)
 
-pub goes_on_at : (t : Meaning) (base n : ℕ) (m m₂ : List ℕ) (from : ℕ) → Inside t.many (t.steps (take t.extent m)) → base ≡ t.extent → n ≡ t.many → (o : Outcome) → Hunted t true base n m m₂ from o
+pub goes_on_at : (t : Meaning) (base n : ℕ) (m m₂ : List ℕ) (from : ℕ) → Inside t.many (t.steps (take t.extent m)) → base ≡ t.extent → n ≡ t.many → (o : Option Found) → Hunted t base n m m₂ from o
     → GoesOn t t.extent t.many m m₂ from o
 goes_on_at t base n m m₂ from ins e d o x =
     subst (λ y. GoesOn t t.extent y m m₂ from o) d (subst (λ y. GoesOn t y n m m₂ from o) e (goes_on t base n m m₂ from (inside_at t base n m ins e d) o x))
 
--- where no goal is looked for, none is found
-pub only_marks : (t : Meaning) (base n : ℕ) (m m₂ : List ℕ) (o : Outcome) → Begins t false base n m m₂ o
+-- where no place is looked for, none is found
+pub only_marks : (t : Meaning) (base n : ℕ) (m m₂ : List ℕ) (o : Option Found) → Begins (goalless t) base n m m₂ o
     → Kept base (base + 3 * n) m m₂ × Marked (t.steps (take base m)) (t.chosen (take base m)) base n m₂
-only_marks t base n m m₂ (Found h next) x = absurd (let z : ◌≡◌ {A = ℕ} 0 1 = let e = x.1.reached.last in cc in omega arith)
-only_marks t base n m m₂ Nothing x = (x.0, x.1.marks)
+only_marks t base n m m₂ (Some e) x = absurd (let z : ◌≡◌ {A = ℕ} 0 1 = let l = x.1.reached.last in cc in omega arith)
+only_marks t base n m m₂ None x = (x.0, x.1.marks)

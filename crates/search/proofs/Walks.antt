@@ -42,31 +42,6 @@ module _ (lists : List (List ℕ)) (goal chosen : ℕ → Bool) (base n : ℕ) w
         };
       }
 
-  pub walk_trans : (a b c : List ℕ) (h : ℕ) → Inside n lists → Walk lists goal chosen base n a b 0 → Walk lists goal chosen base n b c h → Walk lists goal chosen base n a c h
-  walk_trans a b c h ins x y =
-      record {
-        kept = kept_trans base (base + 3 * n) a b c x.kept y.kept;
-        stack = y.stack;
-        path = y.path;
-        ours = λ k l. let f = y.ours k l in (free_before base a b _ (x.spread.stays _ (y.stack.below k l)) f.0, f.1);
-        led = y.led;
-        spread = record {
-          stays = λ p l f. y.spread.stays p l (x.spread.stays p l f);
-          reached = λ p l f. ⊎_elim
-              (λ (e : mark base b p ≡ 0). y.spread.reached p l (e, f.1))
-              (λ (ne : mark base b p ≡ 0 → ⊥). x.spread.reached p l (f.0, omega arith))
-              (cases_eq (mark base b p) 0);
-          closed = λ p l f. ⊎_elim
-              (λ (e : mark base b p ≡ 0). y.spread.closed p l (e, f.1))
-              (λ (ne : mark base b p ≡ 0 → ⊥).
-              ⊎_elim
-              (λ on. absurd (let z : ⊥ = omega (arith, on.1) in z))
-              (λ d. inr (done_grows lists goal base n b c p ins y.spread.stays l d))
-              (x.spread.closed p l (f.0, omega arith)))
-              (cases_eq (mark base b p) 0);
-        };
-      }
-
 -- one place more
 module _ (lists : List (List ℕ)) (goal chosen : ℕ → Bool) (base n : ℕ) (m₀ m : List ℕ) (h q : ℕ)
     (ins : Inside n lists) (w : Walk lists goal chosen base n m₀ m h) (inside : q < n) (free : mark base m q ≡ 0)

@@ -1,5 +1,5 @@
 -- What a graph means, and what its steps reach.
-use Rattle.std.specs.Prelude.{◌≡◌, ℕ, ◌<◌, Bool, true, List, [], length, slice_index, slice_index_or}
+use Rattle.std.specs.Prelude.{◌≡◌, ℕ, ◌<◌, Bool, true, false, List, [], length, slice_index, slice_index_or}
 
 -- how many places there are, and how many numbers at the front of the memory the lists take; and, by these numbers, the steps out of each place,
 -- the places that are looked for and the places to start from, all places by number
@@ -9,6 +9,10 @@ pub record Meaning : Type 0 where
   pub steps : List ℕ → List (List ℕ)
   pub goal : List ℕ → ℕ → Bool
   pub chosen : List ℕ → ℕ → Bool
+
+-- the same graph, with no place looked for
+abbrev pub goalless : Meaning → Meaning
+goalless t = record t { goal = λ f p. false }
 
 -- the steps out of place p
 abbrev pub row : List (List ℕ) → ℕ → List ℕ

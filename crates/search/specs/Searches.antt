@@ -1,11 +1,10 @@
 -- What the calls promise. `lists`, `goal` and `chosen` are a graph's as it lies in the memory, n is how many places it has.
-use Rattle.std.specs.Prelude.{◌≡◌, ℕ, ◌+◌, ◌-◌, ◌<◌, ◌≤◌, Bool, true, false, ◌≢◌, ◌⊎◌, List, length, take, Ok, Err, Result, slice_index}
+use Rattle.std.specs.Prelude.{◌≡◌, ℕ, ◌+◌, ◌-◌, ◌<◌, ◌≤◌, Bool, true, false, ◌≢◌, ◌⊎◌, List, length, take, Ok, Err, Option, Result, MatchOption, slice_index}
 use Rattle.circuits.specs.Answers.{number_of}
 use Rattle.circuits.specs.declared.answer.Refusal.{Refusal}
 use Rattle.search.specs.Graphs.{Meaning, row, Step, Reaches}
 use Rattle.search.specs.Rows.{mark, stacked, needed, Kept}
-use Rattle.search.specs.declared.Outcome.{Outcome}
-use Rattle.search.specs.declared.Outcome.TheVariants.{Found, Nothing}
+use Rattle.search.specs.declared.Found.{Found}
 
 -- exactly what steps reach is marked
 pub record Marked (lists : List (List ℕ)) (chosen : ℕ → Bool) (base n : ℕ) (m : List ℕ) : Type 0 where
@@ -99,13 +98,12 @@ MarksReached t before after r =
     let f = take t.extent before in
     UnlessShort (needed t) before after (λ _. RowsOnly t before after × Marked (t.steps f) (t.chosen f) t.extent t.many after) r
 
--- an outcome, by what a found path and its absence say
-abbrev pub Ends : (ℕ → ℕ → Type 0) → Type 0 → Outcome → Type 0
-Ends found nothing (Found h next) = found h next
-Ends found nothing Nothing = nothing
+-- how a search ends, by what a found path and its absence say
+abbrev pub Ends : (ℕ → ℕ → Type 0) → Type 0 → Option Found → Type 0
+Ends found nothing o = MatchOption o nothing (λ f. found f.length f.next)
 
 -- `find`: as if no place had been marked, a path to a goal, or none is reached
-abbrev pub Finds : Meaning → List ℕ → List ℕ → Result Outcome Refusal → Type 0
+abbrev pub Finds : Meaning → List ℕ → List ℕ → Result (Option Found) Refusal → Type 0
 Finds t before after r =
     let f = take t.extent before in
     UnlessShort (needed t) before after
@@ -115,7 +113,7 @@ Finds t before after r =
     r
 
 -- `find_further`: a path to a goal past the marks that it meets, from the chosen places from `from` on, or none is left that way
-abbrev pub FindsFurther : Meaning → List ℕ → List ℕ → ℕ → Result Outcome Refusal → Type 0
+abbrev pub FindsFurther : Meaning → List ℕ → List ℕ → ℕ → Result (Option Found) Refusal → Type 0
 FindsFurther t before after from r =
     let f = take t.extent before in
     UnlessShort (needed t) before after
@@ -125,7 +123,7 @@ FindsFurther t before after from r =
     r
 
 -- `find_or_exhaust`: a path to a goal, or none is reached, whatever marks it meets
-abbrev pub FindsAny : Meaning → List ℕ → List ℕ → ℕ → Result Outcome Refusal → Type 0
+abbrev pub FindsAny : Meaning → List ℕ → List ℕ → ℕ → Result (Option Found) Refusal → Type 0
 FindsAny t before after from r =
     let f = take t.extent before in
     UnlessShort (needed t) before after

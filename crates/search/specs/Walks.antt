@@ -1,12 +1,11 @@
 -- The turns of a search: what its inner functions promise to one another.
-use Rattle.std.specs.Prelude.{◌≡◌, ℕ, zero, suc, ◌+◌, ◌-◌, ◌*◌, ◌^◌, ◌<◌, ◌≤◌, min, Bool, true, ◌&&◌, List, length, take, Ok, Err, Option, Result, MatchOption, slice_index, slice_index_or, slice_set}
+use Rattle.std.specs.Prelude.{◌≡◌, ℕ, zero, suc, ◌+◌, ◌-◌, ◌*◌, ◌^◌, ◌<◌, ◌≤◌, min, Bool, true, List, length, take, Ok, Err, Option, Result, MatchOption, slice_index, slice_set}
 use Rattle.circuits.specs.Answers.{number_of}
 use Rattle.circuits.specs.declared.answer.Refusal.{Refusal}
 use Rattle.search.specs.Graphs.{Meaning, row}
 use Rattle.search.specs.Rows.{mark, stacked, tried, needed, Kept}
 use Rattle.search.specs.Searches.{Path, Fresh, Led, Spread, Served, Ends}
-use Rattle.search.specs.declared.walk.Rows.{Rows}
-use Rattle.search.specs.declared.Outcome.{Outcome}
+use Rattle.search.specs.declared.Found.{Found}
 
 -- f 0 + .. + f (k - 1)
 unfoldable pub sum_to : (ℕ → ℕ) → ℕ → ℕ
@@ -44,7 +43,7 @@ pub record Opens (lists : List (List ℕ)) (base : ℕ) (m : List ℕ) (p from i
   pub low : from ≤ i
   pub high : i < length (row lists p)
   pub small : i + 1 < 2 ^ 32
-  pub leads : slice_index_or (row lists p) i 0 ≡ q
+  pub leads : slice_index (row lists p) i ≡ q
   pub free : mark base m q ≡ 0
   pub passed : Passed lists base m p from i
 
@@ -64,37 +63,33 @@ pub record Walk (lists : List (List ℕ)) (goal chosen : ℕ → Bool) (base n :
   pub led : (k : ℕ) → k < h → Led lists base m (stacked base n m k) (tried base n m (stacked base n m k))
   pub spread : Spread lists goal chosen base n (mark base m₀) m h
 
--- the goals, where any are looked for
-abbrev pub sought : Bool → (ℕ → Bool) → ℕ → Bool
-sought seek goal p = seek && goal p
-
 -- a walk over the graph t, in the memory that has f in front
-abbrev pub On : Meaning → Bool → ℕ → ℕ → List ℕ → List ℕ → List ℕ → ℕ → Type 0
-On t seek base n f = Walk (t.steps f) (sought seek (t.goal f)) (t.chosen f) base n
+abbrev pub On : Meaning → ℕ → ℕ → List ℕ → List ℕ → List ℕ → ℕ → Type 0
+On t base n f = Walk (t.steps f) (t.goal f) (t.chosen f) base n
 
 -- the walk stands at a goal
-pub record Arrived (t : Meaning) (seek : Bool) (base n : ℕ) (m₀ m : List ℕ) (h : ℕ) : Type 0 where
-  pub walk : On t seek base n (take base m₀) m₀ m h
+pub record Arrived (t : Meaning) (base n : ℕ) (m₀ m : List ℕ) (h : ℕ) : Type 0 where
+  pub walk : On t base n (take base m₀) m₀ m h
   pub some : 0 < h
-  pub last : sought seek (t.goal (take base m₀)) (stacked base n m (h - 1)) ≡ true
+  pub last : t.goal (take base m₀) (stacked base n m (h - 1)) ≡ true
 
 -- a walk from one place: to a goal, or until nothing is left on the stack
-abbrev pub Dived : Meaning → Bool → ℕ → ℕ → List ℕ → List ℕ → Option ℕ → Type 0
-Dived t seek base n m₀ m r = MatchOption r (On t seek base n (take base m₀) m₀ m 0) (λ h. Arrived t seek base n m₀ m h)
+abbrev pub Dived : Meaning → ℕ → ℕ → List ℕ → List ℕ → Option ℕ → Type 0
+Dived t base n m₀ m r = MatchOption r (On t base n (take base m₀) m₀ m 0) (λ h. Arrived t base n m₀ m h)
 
 -- a walk from the chosen places from `from` on
-pub record Hit (t : Meaning) (seek : Bool) (base n : ℕ) (m₀ m : List ℕ) (from h next : ℕ) : Type 0 where
-  pub arrived : Arrived t seek base n m₀ m h
+pub record Hit (t : Meaning) (base n : ℕ) (m₀ m : List ℕ) (from h next : ℕ) : Type 0 where
+  pub arrived : Arrived t base n m₀ m h
   pub further : from < next
   pub within : next ≤ n
   pub served : Served (t.chosen (take base m₀)) base m from next
 
-abbrev pub Hunted : Meaning → Bool → ℕ → ℕ → List ℕ → List ℕ → ℕ → Outcome → Type 0
-Hunted t seek base n m₀ m from =
-    Ends (λ h next. Hit t seek base n m₀ m from h next)
-    (On t seek base n (take base m₀) m₀ m 0 × Served (t.chosen (take base m₀)) base m from n)
+abbrev pub Hunted : Meaning → ℕ → ℕ → List ℕ → List ℕ → ℕ → Option Found → Type 0
+Hunted t base n m₀ m from =
+    Ends (λ h next. Hit t base n m₀ m from h next)
+    (On t base n (take base m₀) m₀ m 0 × Served (t.chosen (take base m₀)) base m from n)
 
--- where the rows of a graph lie, refused by 11 where the memory is too short for them
-abbrev pub Placed : Meaning → List ℕ → Result Rows Refusal → Type 0
-Placed t m (Ok rows) = (needed t ≤ length m) × (rows.base ≡ t.extent) × (rows.count ≡ t.many) × (t.many < 2 ^ 32)
-Placed t m (Err e) = (length m < needed t) × (number_of e ≡ 11)
+-- refused by 11 where the memory is too short for the lists and the rows of a graph; else as told
+abbrev pub Placed : {A : Type 0} → Meaning → List ℕ → (A → Type 0) → Result A Refusal → Type 0
+Placed t m told (Ok w) = (needed t ≤ length m) × told w
+Placed t m told (Err e) = (length m < needed t) × (number_of e ≡ 11)

@@ -2,12 +2,14 @@ ghost use Rattle.std.specs.Prelude.{◌≡◌, ℕ, ◌<◌, ◌≤◌, List, le
 ghost use Rattle.search.specs.Graphs.{Meaning, Inside, row};
 
 // A finite graph whose lists lie in the front part of a memory that is lent with each question. Any numbers there mean a graph. Asking changes nothing.
+// That the memory is long enough and that a place is one of the graph are clauses: a type that kept the first would hold the graph beside the memory and be made anew after
+// each write of the search, and a place that kept the second would hold its graph.
 pub trait Graph {
     type Place: Copy;
 
     ghost meaning: { Self → Meaning };
 
-    // the number of a place
+    // The number of a place.
     ghost index: { Self → Self.Place → ℕ };
 
     // How many places there are.

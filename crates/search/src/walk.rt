@@ -1,176 +1,196 @@
-ghost use Rattle.std.specs.Prelude.{◌≡◌, ◌+◌, ◌-◌, ◌*◌, ◌^◌, ◌<◌, ◌≤◌, true, length, take, MatchOption};
+ghost use Rattle.std.specs.Prelude.{◌≡◌, ◌+◌, ◌-◌, ◌*◌, ◌<◌, ◌≤◌, true, length, take, MatchOption, slice_index};
 ghost use Rattle.search.specs.Graphs.{row};
 ghost use Rattle.search.specs.Rows.{mark, stacked, Kept};
-ghost use Rattle.search.specs.Walks.{Clear, Stack, pushed, Passed, Opens, Turned, sought, Dived, Hunted, Placed};
+ghost use Rattle.search.specs.Walks.{Clear, Stack, pushed, Passed, Opens, Turned, Dived, Hunted, Placed};
 
-use crate::Outcome;
+use crate::Found;
 use crate::graph::Graph;
 use circuits::answer::Refusal;
 
-// The rows of a search: from `base` on its marks, then its stack, then the steps tried, `count` numbers each.
+// A step of a place: its number there, and the number of the place it leads to.
 #[derive(Clone, Copy)]
-pub struct Rows {
-    pub base: usize,
-    pub count: usize,
+struct Step {
+    number: u32,
+    to: u32,
 }
 
-impl Rows {
-    // Where the rows lie, unless the memory is too short for them.
-    pub fn of<G: Graph>(graph: &G, memory: &[u32]) -> Result<Rows, Refusal>
-        ensures { Placed (G.Graph.meaning graph.now) memory.now result }
+// What walks over a graph. In the memory that is lent with each call lie, from `base` on, the marks, then the stack, then the steps tried, `count` numbers each.
+// The memory is no field: each of six methods would have to say of the graph, both numbers and the memory that they stay, and would have only the clause `room` less.
+#[derive(Drop)]
+pub struct Walker<'a, G: Graph> {
+    graph: &'a G,
+    base: u32,
+    count: u32,
+    ghost lists: { base ≡ (G.meaning graph.now).extent },
+    ghost places: { count ≡ (G.meaning graph.now).many },
+}
+
+impl<'a, G: Graph> Walker<'a, G> {
+    // Unless the memory is too short for its rows.
+    pub fn over(graph: &'a G, memory: &[u32]) -> Result<Walker<'a, G>, Refusal>
+        ensures { Placed (G.meaning graph.now) memory.now (λ w. w.graph.now ≡ graph.now) result }
     {
-        let base = graph.front() as usize;
-        let count = graph.count() as usize;
-        if memory.len() < base + 3 * count {
+        let base = graph.front();
+        let count = graph.count();
+        if memory.len() < base as usize + 3 * count as usize {
             return Err(Refusal::MemoryTooShort);
         }
-        Ok(Rows { base, count })
+        Ok(Walker { graph, base, count })
     }
-}
 
-// Sets the marks to 0.
-pub fn clear(memory: &mut [u32], rows: Rows)
-    requires { rows.base + 3 * rows.count ≤ length memory.old }
-    ensures kept { Kept rows.base (rows.base + 3 * rows.count) memory.old memory.new }
-    ensures clear { Clear rows.base rows.count memory.new }
-{
-    for p in 0..rows.count {
-        memory[rows.base + p] = 0;
+    // Where the mark of a place is.
+    fn mark(&self, place: u32) -> usize
+        ensures { result ≡ self.now.base + place }
+    {
+        self.base as usize + place as usize
     }
-}
 
-// Marks the place and puts it on the stack, none of its steps tried.
-fn push(memory: &mut [u32], rows: Rows, height: u32, place: u32)
-    requires stack { Stack rows.base rows.count memory.old height }
-    requires inside { place < rows.count }
-    requires free { mark rows.base memory.old place ≡ 0 }
-    ensures { memory.new ≡ pushed rows.base rows.count memory.old height place }
-{
-    memory[rows.base + place as usize] = 1;
-    memory[rows.base + rows.count + height as usize] = place;
-    memory[rows.base + rows.count + rows.count + place as usize] = 0;
-}
+    // Where the stack has its place at a height.
+    fn stacked(&self, height: u32) -> usize
+        ensures { result ≡ self.now.base + self.now.count + height }
+    {
+        self.base as usize + self.count as usize + height as usize
+    }
 
-// The first step of the place, from number `from` on, that leads to an unmarked place: its number, and that place's.
-fn open_step<G: Graph>(
-    graph: &G,
-    memory: &[u32],
-    rows: Rows,
-    place: G::Place,
-    from: u32,
-) -> Option<(u32, u32)>
-    requires base { rows.base ≡ (G.Graph.meaning graph.now).extent }
-    requires count { rows.count ≡ (G.Graph.meaning graph.now).many }
-    requires room { rows.base + 3 * rows.count ≤ length memory.now }
-    requires inside { G.Graph.index graph.now place < (G.Graph.meaning graph.now).many }
-    ensures { MatchOption result (Passed ((G.Graph.meaning graph.now).steps (take rows.base memory.now)) rows.base memory.now (G.Graph.index graph.now place) from (length (row ((G.Graph.meaning graph.now).steps (take rows.base memory.now)) (G.Graph.index graph.now place)))) (λ s. Opens ((G.Graph.meaning graph.now).steps (take rows.base memory.now)) rows.base memory.now (G.Graph.index graph.now place) from s.0 s.1) }
-{
-    let degree = graph.degree(memory, place);
-    for i in from..degree {
-        let next = graph.number(graph.step(memory, place, i));
-        if memory[rows.base + next as usize] == 0 {
-            return Some((i, next));
+    // Where the steps of a place that were tried are counted.
+    fn tried(&self, place: u32) -> usize
+        ensures { result ≡ self.now.base + self.now.count + self.now.count + place }
+    {
+        self.base as usize + self.count as usize + self.count as usize + place as usize
+    }
+
+    // Sets the marks to 0.
+    pub fn clear(&self, memory: &mut [u32])
+        requires { self.now.base + 3 * self.now.count ≤ length memory.old }
+        ensures kept { Kept self.now.base (self.now.base + 3 * self.now.count) memory.old memory.new }
+        ensures clear { Clear self.now.base self.now.count memory.new }
+    {
+        memory[self.mark(0)..self.mark(self.count)].fill(0);
+    }
+
+    // Marks the place and puts it on the stack, none of its steps tried.
+    fn push(&self, memory: &mut [u32], height: u32, place: u32)
+        requires stack { Stack self.now.base self.now.count memory.old height }
+        requires inside { place < self.now.count }
+        requires free { mark self.now.base memory.old place ≡ 0 }
+        ensures { memory.new ≡ pushed self.now.base self.now.count memory.old height place }
+    {
+        memory[self.mark(place)] = 1;
+        memory[self.stacked(height)] = place;
+        memory[self.tried(place)] = 0;
+    }
+
+    // The place on top of the stack.
+    #[tactic(auto, using(crate::proofs::Totals::tally_fits))]
+    fn top(&self, memory: &[u32], height: u32) -> u32
+        requires stack { Stack self.now.base self.now.count memory.now height }
+        requires some { 0 < height }
+        ensures { result ≡ stacked self.now.base self.now.count memory.now (height - 1) }
+    {
+        memory[self.stacked(height - 1)]
+    }
+
+    // The step of the place at i, if it leads to an unmarked place.
+    fn opening(&self, memory: &[u32], place: G::Place, i: u32) -> Option<Step>
+        requires room { self.now.base + 3 * self.now.count ≤ length memory.now }
+        requires inside { G.index self.now.graph.now place < self.now.count }
+        requires within { i < length (row ((G.meaning self.now.graph.now).steps (take self.now.base memory.now)) (G.index self.now.graph.now place)) }
+        ensures { MatchOption result (0 < mark self.now.base memory.now (slice_index (row ((G.meaning self.now.graph.now).steps (take self.now.base memory.now)) (G.index self.now.graph.now place)) i)) (λ s. (s.number ≡ i) × (slice_index (row ((G.meaning self.now.graph.now).steps (take self.now.base memory.now)) (G.index self.now.graph.now place)) i ≡ s.to) × (mark self.now.base memory.now s.to ≡ 0)) }
+    {
+        let to = self.graph.number(self.graph.step(memory, place, i));
+        (memory[self.mark(to)] == 0).then_some(Step { number: i, to })
+    }
+
+    // The first step of the place, from number `from` on, that leads to an unmarked place.
+    fn open_step(&self, memory: &[u32], place: G::Place, from: u32) -> Option<Step>
+        requires room { self.now.base + 3 * self.now.count ≤ length memory.now }
+        requires inside { G.index self.now.graph.now place < self.now.count }
+        ensures { MatchOption result (Passed ((G.meaning self.now.graph.now).steps (take self.now.base memory.now)) self.now.base memory.now (G.index self.now.graph.now place) from (length (row ((G.meaning self.now.graph.now).steps (take self.now.base memory.now)) (G.index self.now.graph.now place)))) (λ s. Opens ((G.meaning self.now.graph.now).steps (take self.now.base memory.now)) self.now.base memory.now (G.index self.now.graph.now place) from s.number s.to) }
+    {
+        let degree = self.graph.degree(memory, place);
+        (from..degree).find_map(|i| self.opening(memory, place, i))
+    }
+
+    // Makes the next step from the place on top of the stack to an unmarked place, or takes the place off, and answers the stack's new height.
+    #[tactic(auto, using(crate::proofs::Totals::tally_room))]
+    fn advance(&self, memory: &mut [u32], height: u32) -> u32
+        requires stack { Stack self.now.base self.now.count memory.old height }
+        requires some { 0 < height }
+        ensures { Turned ((G.meaning self.now.graph.now).steps (take self.now.base memory.old)) self.now.base self.now.count memory.old height (stacked self.now.base self.now.count memory.old (height - 1)) memory.new result }
+    {
+        let top = self.top(memory, height);
+        let from = memory[self.tried(top)];
+        match self.open_step(memory, self.graph.place(top), from) {
+            Some(step) => {
+                self.push(memory, height, step.to);
+                memory[self.tried(top)] = step.number + 1;
+                height + 1
+            }
+            None => height - 1,
         }
     }
-    None
-}
 
-// Makes the next step from the place on top of the stack to an unmarked place, or takes the place off, and answers the stack's new height.
-fn advance<G: Graph>(graph: &G, memory: &mut [u32], rows: Rows, height: u32) -> u32
-    requires base { rows.base ≡ (G.Graph.meaning graph.now).extent }
-    requires count { rows.count ≡ (G.Graph.meaning graph.now).many }
-    requires few { rows.count < 2 ^ 32 }
-    requires stack { Stack rows.base rows.count memory.old height }
-    requires some { 0 < height }
-    ensures { Turned ((G.Graph.meaning graph.now).steps (take rows.base memory.old)) rows.base rows.count memory.old height (stacked rows.base rows.count memory.old (height - 1)) memory.new result }
-{
-    let top = memory[rows.base + rows.count + (height as usize - 1)];
-    let from = memory[rows.base + rows.count + rows.count + top as usize];
-    match open_step(graph, memory, rows, graph.place(top), from) {
-        Some((i, next)) => {
-            push(memory, rows, height, next);
-            memory[rows.base + rows.count + rows.count + top as usize] = i + 1;
-            height + 1
-        }
-        None => height - 1,
+    // Whether the place on top of the stack is a goal.
+    fn at_goal(&self, memory: &[u32], height: u32) -> bool
+        requires stack { Stack self.now.base self.now.count memory.now height }
+        requires some { 0 < height }
+        ensures { result ≡ (G.meaning self.now.graph.now).goal (take self.now.base memory.now) (stacked self.now.base self.now.count memory.now (height - 1)) }
+    {
+        let top = self.graph.place(self.top(memory, height));
+        self.graph.is_goal(memory, top)
     }
-}
 
-// Whether goals are looked for, and the place on top of the stack is one.
-fn at_goal<G: Graph>(graph: &G, memory: &[u32], rows: Rows, seek: bool, height: u32) -> bool
-    requires base { rows.base ≡ (G.Graph.meaning graph.now).extent }
-    requires count { rows.count ≡ (G.Graph.meaning graph.now).many }
-    requires stack { Stack rows.base rows.count memory.now height }
-    requires some { 0 < height }
-    ensures { result ≡ sought seek ((G.Graph.meaning graph.now).goal (take rows.base memory.now)) (stacked rows.base rows.count memory.now (height - 1)) }
-{
-    seek && graph.is_goal(
-        memory,
-        graph.place(memory[rows.base + rows.count + (height as usize - 1)]),
-    )
-}
-
-// Walks on from the place until the top of the stack is a goal, or the stack is empty again.
-fn dive<G: Graph>(graph: &G, memory: &mut [u32], rows: Rows, seek: bool, place: u32) -> Option<u32>
-    requires base { rows.base ≡ (G.Graph.meaning graph.now).extent }
-    requires count { rows.count ≡ (G.Graph.meaning graph.now).many }
-    requires few { rows.count < 2 ^ 32 }
-    requires room { rows.base + 3 * rows.count ≤ length memory.old }
-    requires inside { place < rows.count }
-    requires free { mark rows.base memory.old place ≡ 0 }
-    requires root { (G.Graph.meaning graph.now).chosen (take rows.base memory.old) place ≡ true }
-    ensures dived { Dived (G.Graph.meaning graph.now) seek rows.base rows.count memory.old memory.new result }
-    ensures marked { 0 < mark rows.base memory.new place }
-{
-    push(memory, rows, 0, place);
-    let mut height = 1;
-    while height > 0 {
-        if at_goal(graph, memory, rows, seek, height) {
-            return Some(height);
+    // Walks on from the place until the top of the stack is a goal, or the stack is empty again.
+    fn dive(&self, memory: &mut [u32], place: u32) -> Option<u32>
+        requires room { self.now.base + 3 * self.now.count ≤ length memory.old }
+        requires inside { place < self.now.count }
+        requires free { mark self.now.base memory.old place ≡ 0 }
+        requires root { (G.meaning self.now.graph.now).chosen (take self.now.base memory.old) place ≡ true }
+        ensures dived { Dived (G.meaning self.now.graph.now) self.now.base self.now.count memory.old memory.new result }
+        ensures marked { 0 < mark self.now.base memory.new place }
+    {
+        self.push(memory, 0, place);
+        let mut height = 1;
+        // No `for`, since nothing is walked in order: the height rises and falls.
+        while height > 0 {
+            if self.at_goal(memory, height) {
+                return Some(height);
+            }
+            height = self.advance(memory, height);
         }
-        height = advance(graph, memory, rows, height);
-    }
-    None
-}
-
-// Walks on from the place if it is chosen and not marked, until a goal.
-fn visit<G: Graph>(
-    graph: &G,
-    memory: &mut [u32],
-    rows: Rows,
-    seek: bool,
-    number: u32,
-) -> Option<u32>
-    requires base { rows.base ≡ (G.Graph.meaning graph.now).extent }
-    requires count { rows.count ≡ (G.Graph.meaning graph.now).many }
-    requires few { rows.count < 2 ^ 32 }
-    requires room { rows.base + 3 * rows.count ≤ length memory.old }
-    requires inside { number < rows.count }
-    ensures dived { Dived (G.Graph.meaning graph.now) seek rows.base rows.count memory.old memory.new result }
-    ensures marked { (G.Graph.meaning graph.now).chosen (take rows.base memory.old) number ≡ true → 0 < mark rows.base memory.new number }
-{
-    if memory[rows.base + number as usize] == 0 && graph.is_chosen(memory, graph.place(number)) {
-        dive(graph, memory, rows, seek, number)
-    } else {
         None
     }
-}
 
-// Walks over unmarked places from the chosen places whose numbers are `from` or more, until a goal if any is looked for.
-pub fn hunt<G: Graph>(graph: &G, memory: &mut [u32], rows: Rows, seek: bool, from: u32) -> Outcome
-    requires base { rows.base ≡ (G.Graph.meaning graph.now).extent }
-    requires count { rows.count ≡ (G.Graph.meaning graph.now).many }
-    requires few { rows.count < 2 ^ 32 }
-    requires room { rows.base + 3 * rows.count ≤ length memory.old }
-    ensures { Hunted (G.Graph.meaning graph.now) seek rows.base rows.count memory.old memory.new from result }
-{
-    for number in from..rows.count as u32 {
-        if let Some(height) = visit(graph, memory, rows, seek, number) {
-            return Outcome::Found {
-                length: height,
-                next: number + 1,
-            };
+    // Walks on from the place if it is chosen and not marked, until a goal.
+    fn visit(&self, memory: &mut [u32], number: u32) -> Option<u32>
+        requires room { self.now.base + 3 * self.now.count ≤ length memory.old }
+        requires inside { number < self.now.count }
+        ensures dived { Dived (G.meaning self.now.graph.now) self.now.base self.now.count memory.old memory.new result }
+        ensures marked { (G.meaning self.now.graph.now).chosen (take self.now.base memory.old) number ≡ true → 0 < mark self.now.base memory.new number }
+    {
+        if memory[self.mark(number)] == 0
+            && self.graph.is_chosen(memory, self.graph.place(number))
+        {
+            self.dive(memory, number)
+        } else {
+            None
         }
     }
-    Outcome::Nothing
+
+    // Walks over unmarked places from the chosen places whose numbers are `from` or more, until a goal.
+    pub fn hunt(&self, memory: &mut [u32], from: u32) -> Option<Found>
+        requires room { self.now.base + 3 * self.now.count ≤ length memory.old }
+        ensures { Hunted (G.meaning self.now.graph.now) self.now.base self.now.count memory.old memory.new from result }
+    {
+        // No `find_map`, which is no plainer: its closure would change the memory, and wants two proofs by hand where this loop wants none.
+        for number in from..self.count {
+            if let Some(length) = self.visit(memory, number) {
+                return Some(Found {
+                    length,
+                    next: number + 1,
+                });
+            }
+        }
+        None
+    }
 }

@@ -1,4 +1,5 @@
 pub mod Scan
+pub mod Rows
 pub mod Decimal
 pub mod Moves
 pub mod Passes

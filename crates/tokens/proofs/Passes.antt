@@ -27,8 +27,5 @@ module _ (text : List ℕ) (k i at : ℕ) (total : Result (Unit {0} × ℕ) Faul
       let e : k - i ≡ suc (k - (i + 1)) = omega arith in
       sym (pass_suc text (k - (i + 1)) at) ∙ ap (λ m. pass_at text m at) (sym e) ∙ inv
 
-  pub pass_stops : (f : Fault) → Err f ≡ number_at text at → Err f ≡ total
-  pass_stops f e = ap (λ r. then r (λ _ on. pass_at text (k - (i + 1)) on)) e ∙ step
-
   pub pass_goes : (n : Numeral) (on : ℕ) → Ok (n, on) ≡ number_at text at → pass_at text (k - (i + 1)) on ≡ total
   pass_goes n on e = ap (λ r. then r (λ _ on. pass_at text (k - (i + 1)) on)) e ∙ step

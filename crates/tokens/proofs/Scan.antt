@@ -1,24 +1,17 @@
 -- Laws of rows of bytes, and of `next_token`.
-use Rattle.std.proofs.Common.{◌≡◌, ℕ, suc, ◌+◌, ◌<◌, ◌≤◌, Bool, true, false, cond, eqb, List, [], ◌∷◌, ◌++◌, length, get_or, take, drop, Ok, Result, sym, refl, ap, ◌∙◌, ⊎_elim, add-zero, one-add, arith, take-add}
+use Rattle.std.proofs.Common.{◌≡◌, ℕ, suc, ◌+◌, ◌≤◌, Bool, true, false, cond, eqb, List, [], ◌∷◌, ◌++◌, length, take, drop, Ok, Result, sym, refl, ap, ◌∙◌, count_by, ⊎_elim, add-zero, one-add, arith, take-add}
 use Rattle.std.specs.List.{prefix_len}
-use Rattle.std.proofs.lemmas.List.{take_more, length-take-le}
-use Rattle.std.proofs.lemmas.Bool.{cases_Bool, cond-true, cond-false, eq-eqb, ne_eqb}
+use Rattle.std.proofs.lemmas.List.{length-take-le}
+use Rattle.std.proofs.lemmas.Bool.{cases_Bool, cond-true, cond-false, ne_eqb}
 use Rattle.std.proofs.lemmas.Bool.Decides.{nat_tests}
-use Rattle.std.proofs.lemmas.List.Sums.{prefix_len-drop_yes, prefix_len-drop_no, prefix_len-drop_all}
+use Rattle.std.proofs.lemmas.List.Recursion.{is_count_by}
 use Rattle.tokens.specs.Places.{visible, blank, ends, line_of}
 use Rattle.tokens.specs.declared.fault.Fault.{Fault}
 use Rattle.tokens.specs.Numbers.{value_of}
 use Rattle.tokens.specs.Tokens.{Piece, sorted, front, next_token, no_token}
 
-module _ (p : ℕ → Bool) (s : List ℕ) (i : ℕ) (so_far : i + prefix_len p (drop i s) ≡ prefix_len p s) where
-  pub run_stops : i < length s → p (get_or s i 0) ≡ false → i ≡ prefix_len p s
-  run_stops h e = omega (arith, prefix_len-drop_no p s i 0 h e)
-
-  pub run_more : i < length s → p (get_or s i 0) ≡ true → i + 1 + prefix_len p (drop (i + 1) s) ≡ prefix_len p s
-  run_more h e = omega (arith, prefix_len-drop_yes p s i 0 h e)
-
-  pub run_all : length s ≤ i → i ≤ length s → length s ≡ prefix_len p s
-  run_all h k = omega (arith, prefix_len-drop_all p s i h)
+pub ends_count : (xs : List ℕ) → ends xs ≡ count_by (λ b. eqb b 10) xs
+ends_count = is_count_by ends (λ b. eqb b 10) refl (λ x xs. refl)
 
 pub ends_append : (xs ys : List ℕ) → ends (xs ++ ys) ≡ ends xs + ends ys
 ends_append [] ys = omega arith
@@ -77,16 +70,5 @@ ends_le (x ∷ xs) = grind (arith, nat_tests, ends_le xs)
 pub line_le : (text : List ℕ) (at : ℕ) → at ≤ length text → line_of text at ≤ at + 1
 line_le text at h = omega (arith, ends_le (take at text), length-take-le at text h)
 
-module _ (text : List ℕ) (at : ℕ) (lt : at < length text) where
-  ends_more : ends (take (at + 1) text) ≡ ends (take at text) + ends (get_or text at 0 ∷ [])
-  ends_more = ap ends (take_more text at 0 lt) ∙ ends_append (take at text) (get_or text at 0 ∷ [])
-
-  pub line_next : get_or text at 0 ≡ 10 → line_of text (at + 1) ≡ line_of text at + 1
-  line_next e =
-      let one : ends (get_or text at 0 ∷ []) ≡ 1 = cond-true _ _ _ (eq-eqb _ 10 e) in
-      omega (arith, ends_more, one)
-
-  pub line_same : (get_or text at 0 ≡ 10 → ⊥) → line_of text (at + 1) ≡ line_of text at
-  line_same ne =
-      let none : ends (get_or text at 0 ∷ []) ≡ 0 = cond-false _ _ _ (ne_eqb _ 10 ne) in
-      omega (arith, ends_more, none)
+pub ends_next : (text : List ℕ) (at n : ℕ) → line_of text (at + n) ≡ line_of text at + ends (take n (drop at text))
+ends_next text at n = rw take-add (omega (arith, ends_append (take at text) (take n (drop at text))))

@@ -3,7 +3,7 @@ ghost use Rattle.std.specs.Prelude.{◌≡◌, map};
 ghost use Rattle.tokens.specs.Gates.{entry, look_up, rule_of};
 
 // What a gate word makes.
-#[derive(Clone, Copy, Debug, PartialEq)]
+#[derive(Clone, Copy, Debug, PartialEq, Eq)]
 pub enum Gate {
     Product,
     Sum,
@@ -12,15 +12,15 @@ pub enum Gate {
     Copy,
 }
 
-// How many inputs or results: a fixed number, or a multiple of the line's own n.
-#[derive(Clone, Copy, Debug, PartialEq)]
+// How many inputs or results: a fixed number, or a multiple of the line's own n; two kinds of counts, so neither is the want of one.
+#[derive(Clone, Copy, Debug, PartialEq, Eq)]
 pub enum Count {
     Exactly(u32),
     Times(u32),
 }
 
 // What stands in the row of a word: how many inputs and results its line has, and what it makes.
-#[derive(Clone, Copy, Debug, PartialEq)]
+#[derive(Clone, Copy, Debug, PartialEq, Eq)]
 pub struct Rule {
     pub inputs: Count,
     pub results: Count,
@@ -88,12 +88,7 @@ const ROWS: [Row; 6] = [
 fn find_row(rows: &[Row], word: &[u8]) -> Option<Rule>
     ensures { result ≡ look_up (map entry rows.now) word.now }
 {
-    for row in rows {
-        if row.word == word {
-            return Some(row.rule);
-        }
-    }
-    None
+    rows.iter().find(|row| row.word == word).map(|row| row.rule)
 }
 
 // The rule of a gate word, if it is one.

@@ -1,11 +1,12 @@
 // Reads the first three lines.
 ghost use Rattle.std.specs.Prelude.{◌≡◌};
+ghost use Rattle.tokens.specs.Places.{ends};
 ghost use Rattle.tokens.specs.Lines.{landed};
 ghost use Rattle.tokens.specs.Headers.{gap, line_start, widths_at, sum_at, header_at};
 
 use crate::cursor::Cursor;
-use crate::fault::{Fault, Reader};
-use crate::token::is_blank;
+use crate::fault::Fault;
+use crate::token::{is_blank, run_len};
 use circuits::answer::Refusal;
 
 // A circuit has at least 1 wire and at most this many.
@@ -32,10 +33,10 @@ impl<'a> Cursor<'a> {
         ensures text { self.new.text ≡ self.old.text }
     {
         let mut sum = 0;
-        for i in 0..k {
+        for _ in 0..k {
             let width = self.number()?;
-            if width.value < 1 || width.value > wires - sum {
-                return Err(self.fault(Refusal::BadWidth, width.at, Reader::Circuit));
+            if !(1..=wires - sum).contains(&width.value) {
+                return Err(self.fault(Refusal::BadWidth, width.at));
             }
             sum += width.value;
         }
@@ -47,17 +48,10 @@ impl<'a> Cursor<'a> {
         ensures text { self.new.text ≡ self.old.text }
         ensures at { self.new.at ≡ line_start self.old.text.now self.old.at }
     {
-        let text = self.text;
-        let mut at = self.at;
-        let mut line = self.line;
-        while at < text.len() && is_gap(text[at]) {
-            if text[at] == 10 {
-                line += 1;
-            }
-            at += 1;
-        }
-        self.at = at;
-        self.line = line;
+        let rest = &self.text[self.at..];
+        let gap = run_len(rest, is_gap);
+        self.line += line_ends(&rest[..gap]);
+        self.at += gap;
     }
 
     // A line of widths, and their sum.
@@ -68,7 +62,7 @@ impl<'a> Cursor<'a> {
         self.next_line();
         let count = self.number()?;
         if count.value > MOST_VALUES {
-            return Err(self.fault(Refusal::CountOutOfBounds, count.at, Reader::Circuit));
+            return Err(self.fault(Refusal::CountOutOfBounds, count.at));
         }
         let sum = self.widths(count.value, wires)?;
         self.line_end()?;
@@ -84,8 +78,8 @@ impl<'a> Cursor<'a> {
         let gates = self.number()?;
         let wires = self.number()?;
         let wires_line = self.line;
-        if wires.value < 1 || wires.value > MOST_WIRES {
-            return Err(self.fault(Refusal::CountOutOfBounds, wires.at, Reader::Circuit));
+        if !(1..=MOST_WIRES).contains(&wires.value) {
+            return Err(self.fault(Refusal::CountOutOfBounds, wires.at));
         }
         self.line_end()?;
         let inputs = self.width_line(wires.value)?;
@@ -105,5 +99,12 @@ impl<'a> Cursor<'a> {
 fn is_gap(b: u8) -> bool
     ensures { result ≡ gap b }
 {
-    is_blank(b) || b == 10
+    is_blank(b) || b == b'\n'
+}
+
+// How many lines end in these bytes.
+fn line_ends(bytes: &[u8]) -> usize
+    ensures { result ≡ ends bytes.now }
+{
+    bytes.iter().filter(|b| **b == b'\n').count()
 }

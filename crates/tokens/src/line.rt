@@ -4,7 +4,7 @@ ghost use Rattle.tokens.specs.Places.{line_of};
 ghost use Rattle.tokens.specs.Lines.{number_at, pass_at, rule_at, end_at, line_at, landed};
 
 use crate::cursor::Cursor;
-use crate::fault::{Fault, Reader};
+use crate::fault::Fault;
 use crate::gate::{Rule, find_rule};
 use crate::token::{Numeral, Token};
 use circuits::answer::Refusal;
@@ -27,13 +27,10 @@ impl<'a> Cursor<'a> {
         ensures text { self.new.text ≡ self.old.text }
     {
         match self.token()? {
-            Token::Number {
-                value,
-                digits: _,
-                at,
-            } => Ok(Numeral { value, at }),
-            Token::Word { bytes: _, at } => Err(self.fault(Refusal::NotANumber, at, Reader::Token)),
-            Token::End { at } => Err(self.fault(Refusal::NotANumber, at, Reader::Token)),
+            Token::Number { value, at, .. } => Ok(Numeral { value, at }),
+            Token::Word { at, .. } | Token::End { at } => {
+                Err(self.fault(Refusal::NotANumber, at))
+            }
         }
     }
 
@@ -43,16 +40,12 @@ impl<'a> Cursor<'a> {
         ensures text { self.new.text ≡ self.old.text }
     {
         match self.token()? {
-            Token::Word { bytes, at } => match find_rule(bytes) {
-                Some(rule) => Ok(rule),
-                None => Err(self.fault(Refusal::UnknownWord, at, Reader::Line)),
-            },
-            Token::Number {
-                value: _,
-                digits: _,
-                at,
-            } => Err(self.fault(Refusal::UnknownWord, at, Reader::Line)),
-            Token::End { at } => Err(self.fault(Refusal::UnknownWord, at, Reader::Line)),
+            Token::Word { bytes, at } => {
+                find_rule(bytes).ok_or(self.fault(Refusal::UnknownWord, at))
+            }
+            Token::Number { at, .. } | Token::End { at } => {
+                Err(self.fault(Refusal::UnknownWord, at))
+            }
         }
     }
 
@@ -62,17 +55,10 @@ impl<'a> Cursor<'a> {
         ensures text { self.new.text ≡ self.old.text }
     {
         match self.token()? {
-            Token::End { at: _ } => Ok(()),
-            Token::Number {
-                value: _,
-                digits: _,
-                at,
-            } => Err(self.fault(Refusal::TokensLeftOver, at, Reader::Line)),
-            Token::Word { bytes: _, at } => Err(self.fault(
-                Refusal::TokensLeftOver,
-                at,
-                Reader::Line,
-            )),
+            Token::End { .. } => Ok(()),
+            Token::Number { at, .. } | Token::Word { at, .. } => {
+                Err(self.fault(Refusal::TokensLeftOver, at))
+            }
         }
     }
 
@@ -81,7 +67,7 @@ impl<'a> Cursor<'a> {
         ensures result { landed result self.new.at ≡ pass_at self.old.text.now k self.old.at }
         ensures text { self.new.text ≡ self.old.text }
     {
-        for i in 0..k {
+        for _ in 0..k {
             self.number()?;
         }
         Ok(())

@@ -1,16 +1,8 @@
 ghost use Rattle.std.specs.Prelude.{◌≡◌};
-ghost use Rattle.tokens.specs.Numbers.{digit, value_of};
+ghost use Rattle.tokens.specs.Numbers.{value_of};
 
 // A number has at most this many digits.
 const MOST_DIGITS: usize = 10;
-
-const LARGEST_NUMBER: u64 = 4_294_967_295;
-
-fn is_digit(b: u8) -> bool
-    ensures { result ≡ digit b }
-{
-    b >= 48 && b <= 57
-}
 
 // The number that a token writes, if it is one.
 pub(crate) fn parse_number(bytes: &[u8]) -> Option<u32>
@@ -20,14 +12,12 @@ pub(crate) fn parse_number(bytes: &[u8]) -> Option<u32>
         return None;
     }
     let mut n: u64 = 0;
+    // No `try_fold`, which is no plainer: it owes the bound of the product for each turn, by three proofs by hand; here the loop's invariant gives it.
     for b in bytes {
-        if !is_digit(*b) {
+        if !b.is_ascii_digit() {
             return None;
         }
-        n = n * 10 + u64::from(*b - 48);
+        n = n * 10 + u64::from(*b - b'0');
     }
-    if n > LARGEST_NUMBER {
-        return None;
-    }
-    Some(n as u32)
+    u32::try_from(n).ok()
 }

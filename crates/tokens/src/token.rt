@@ -1,12 +1,12 @@
-ghost use Rattle.std.specs.Prelude.{◌≡◌, length};
+ghost use Rattle.std.specs.Prelude.{◌≡◌, ◌≤◌, ℕ, Bool, length};
 ghost use Rattle.std.specs.List.{prefix_len};
 ghost use Rattle.tokens.specs.Places.{visible, blank, line_of};
-ghost use Rattle.tokens.specs.Faults.{finder, fault_at};
+ghost use Rattle.tokens.specs.Faults.{fault_at};
 ghost use Rattle.tokens.specs.Tokens.{front, meant, no_token, token_at, past, start};
 ghost use Rattle.tokens.specs.Cursors.{rest_of, Moved};
 
 use crate::cursor::Cursor;
-use crate::fault::{Fault, Reader};
+use crate::fault::Fault;
 use crate::number::parse_number;
 use circuits::answer::Refusal;
 
@@ -28,7 +28,7 @@ pub enum Token<'a> {
 }
 
 // A number of the text, with the byte of its token.
-#[derive(Clone, Copy, PartialEq, Debug)]
+#[derive(Clone, Copy, PartialEq, Eq, Debug)]
 pub struct Numeral {
     pub value: u32,
     pub at: usize,
@@ -38,37 +38,23 @@ pub struct Numeral {
 fn is_visible(b: u8) -> bool
     ensures { result ≡ visible b }
 {
-    b >= 33 && b <= 126
+    b.is_ascii_graphic()
 }
 
 // A separator.
 pub(crate) fn is_blank(b: u8) -> bool
     ensures { result ≡ blank b }
 {
-    b == 9 || b == 13 || b == 32
+    matches!(b, b'\t' | b'\r' | b' ')
 }
 
-// How many bytes at the front are of a token.
-fn visible_len(s: &[u8]) -> usize
-    ensures { result ≡ prefix_len visible s.now }
+// How many bytes at the front pass the test.
+pub(crate) fn run_len<F: Fn(u8) -> bool>(bytes: &[u8], test: F) -> usize
+    requires { F.IsAlwaysCallable test }
+    ensures within { result ≤ length bytes.now }
+    ensures run { (p : ℕ → Bool) → ((b : ℕ) (r : Bool) → F.post test b r → r ≡ p b) → result ≡ prefix_len p bytes.now }
 {
-    for (i, b) in s.iter().enumerate() {
-        if !is_visible(*b) {
-            return i;
-        }
-    }
-    s.len()
-}
-
-fn blank_len(s: &[u8]) -> usize
-    ensures { result ≡ prefix_len blank s.now }
-{
-    for (i, b) in s.iter().enumerate() {
-        if !is_blank(*b) {
-            return i;
-        }
-    }
-    s.len()
+    bytes.iter().take_while(|b| test(**b)).count()
 }
 
 impl<'a> Cursor<'a> {
@@ -76,9 +62,8 @@ impl<'a> Cursor<'a> {
     fn skip_blanks(&mut self)
         ensures { Moved self.old self.new (prefix_len blank (rest_of self.old)) }
     {
-        let text = self.text;
-        let at = self.at;
-        self.at = at + blank_len(&text[at..]);
+        let rest = &self.text[self.at..];
+        self.at += run_len(rest, is_blank);
     }
 
     // The bytes of the token that begins here, none where none does.
@@ -86,23 +71,17 @@ impl<'a> Cursor<'a> {
         ensures row { result.now ≡ front (rest_of self.old) }
         ensures moved { Moved self.old self.new (length result.now) }
     {
-        let text = self.text;
-        let at = self.at;
-        let end = at + visible_len(&text[at..]);
-        self.at = end;
-        &text[at..end]
+        let rest = &self.text[self.at..];
+        let row = &rest[..run_len(rest, is_visible)];
+        self.at += row.len();
+        row
     }
 
-    // A fault, at a byte of this line and found by its reader.
-    pub fn fault(&self, refusal: Refusal, byte: usize, reader: Reader) -> Fault
-        ensures { reader ≡ finder refusal → line_of self.now.text.now byte ≡ self.now.line → result ≡ fault_at self.now.text.now refusal byte }
+    // A fault at a byte of this line.
+    pub fn fault(&self, refusal: Refusal, byte: usize) -> Fault
+        ensures { line_of self.now.text.now byte ≡ self.now.line → result ≡ fault_at self.now.text.now refusal byte }
     {
-        Fault {
-            refusal,
-            line: self.line,
-            byte,
-            reader,
-        }
+        Fault::new(refusal, self.line, byte)
     }
 
     // The next token of this line, or the line's end.
@@ -133,9 +112,9 @@ impl<'a> Cursor<'a> {
         ensures { meant result ≡ no_token self.now.text.now self.now.at (rest_of self.now) }
     {
         let at = self.at;
-        if at < self.text.len() && self.text[at] != 10 {
-            return Err(self.fault(Refusal::ByteNotAllowed, at, Reader::Token));
+        match self.text.get(at) {
+            None | Some(b'\n') => Ok(Token::End { at }),
+            Some(_) => Err(self.fault(Refusal::ByteNotAllowed, at)),
         }
-        Ok(Token::End { at })
     }
 }

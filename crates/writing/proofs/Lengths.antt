@@ -1,14 +1,16 @@
 -- How long the written text is at most.
 use Rattle.std.proofs.Common.{◌≡◌, ℕ, suc, ◌+◌, ◌-◌, ◌*◌, ◌^◌, ◌<◌, ◌≤◌, Bool, true, false, cond, eqb, List, [], ◌∷◌, ◌++◌, length, drop, codes, decimal, sym, ap, subst, ⊎_elim, arith, length-append}
-use Rattle.std.proofs.lemmas.Fmt.{length-decimal-le}
+use Rattle.std.proofs.lemmas.Fmt.{decimal_digit, length-decimal-le}
 use Rattle.std.proofs.lemmas.List.{length-drop, get_or-drop}
 use Rattle.std.proofs.lemmas.Bool.{cond-true, cond-false, cases_Bool}
 use Rattle.circuits.specs.declared.making.Entry.{Entry}
 use Rattle.circuits.specs.declared.making.Making.{Making}
 use Rattle.circuits.specs.declared.making.Making.TheVariants.{Input, Constant, Copy, Inversion, Sum, Product}
 use Rattle.reading.specs.Texts.{blank_entry, entry_at}
-use Rattle.writing.proofs.Splices.{one_digit}
 use Rattle.writing.specs.Writes.{gate_text, name_of, making_text, wires_text, width_text, circuit_text}
+
+one_digit : (n : ℕ) → n < 10 → length (decimal n) ≡ 1
+one_digit n lt = ap length (decimal_digit n lt)
 
 pub digits_le : (n : ℕ) → n < 2 ^ 32 → length (decimal n) ≤ 10
 digits_le n f = length-decimal-le 10 n (omega arith) (omega arith) (omega arith)

@@ -1,4 +1,4 @@
-pub mod Splices
+pub mod Pages
 pub mod Lengths
 pub mod Written
 pub mod Back

@@ -1,18 +1,19 @@
 -- The table of a lawful circuit, and what it gives the writer.
-use Rattle.std.proofs.Common.{◌≡◌, ℕ, ◌^◌, ◌<◌, ◌≤◌, false, List, [], ◌∷◌, length, get_or, Some, None, Option, sym, refl, ap, ◌∙◌, subst, ⊎_elim, arith}
+use Rattle.std.proofs.Common.{◌≡◌, ℕ, ◌^◌, ◌<◌, ◌≤◌, false, List, [], ◌∷◌, length, get_or, Some, sym, refl, ap, ◌∙◌, subst, ⊎_elim, arith}
 use Rattle.std.specs.List.{slice_get}
+use Rattle.std.specs.Option.{unwrap_or}
+use Rattle.std.proofs.Math.ListN.{get_or-map}
 use Rattle.std.proofs.lemmas.List.{get_or_past, length-map}
-use Rattle.std.proofs.lemmas.Option.{slice_get-get_or, slice_get_past}
-use Rattle.std.proofs.lemmas.Bool.{cases_lt, both_ways}
+use Rattle.std.proofs.lemmas.Option.{unwrap_or-slice_get}
+use Rattle.std.proofs.lemmas.Bool.{cases_lt}
 use Rattle.circuits.specs.Circuits.{Meaning, Lawful, width}
 use Rattle.circuits.specs.Tables.{tabled, makings_of, names_of}
 use Rattle.circuits.specs.declared.making.Entry.{Entry}
 use Rattle.circuits.specs.declared.making.Making.{Making}
-use Rattle.circuits.specs.declared.making.Making.TheVariants.{Input, Constant}
+use Rattle.circuits.specs.declared.making.Making.TheVariants.{Constant}
 use Rattle.reading.specs.Texts.{blank_entry, entry_at, circuit_of}
 use Rattle.reading.proofs.Laws.{Sound}
-use Rattle.reading.proofs.Tabled.{lawful_sound, making_at, name_at}
-use Rattle.writing.specs.Laid.{Room}
+use Rattle.reading.proofs.Tabled.{lawful_sound}
 use Rattle.writing.specs.Writes.{name_of, entries_of, table_of, head_text, written, ReadsBack}
 use Rattle.writing.proofs.Lengths.{written_len}
 use Rattle.writing.proofs.Round.{round}
@@ -27,12 +28,6 @@ names_back [] [] e = refl
 names_back [] (n ∷ ns) e = absurd (omega arith)
 names_back (m ∷ ms) [] e = absurd (omega arith)
 names_back (m ∷ ms) (n ∷ ns) e = ap (λ l. n ∷ l) (names_back ms ns (omega arith))
-
-some_none : {X : Type 0} (x : X) → ◌≡◌ {A = Option X} (Some x) None → ⊥
-some_none x e = let z : ◌≡◌ {A = ℕ} 0 1 = cc in omega arith
-
-some_same : {X : Type 0} (x y : X) → ◌≡◌ {A = Option X} (Some x) (Some y) → x ≡ y
-some_same x y e = cc
 
 module _ (m : Meaning) (l : Lawful m) where
   pub makings_are : makings_of (table_of m) ≡ m.makings
@@ -53,33 +48,13 @@ module _ (m : Meaning) (l : Lawful m) where
   sound = lawful_sound (table_of m) m.inputs m.outputs (subst Lawful (sym meant) l)
 
   -- what a circuit answers is what its table has
-  pub name_some : (k n : ℕ) → Some n ≡ slice_get m.names k → n ≡ name_of (table_of m) k
-  name_some k n e =
-      ⊎_elim
-      (λ lt. some_same _ _ (e ∙ slice_get-get_or m.names k 0 (omega (arith, l.named))) ∙ ap (λ ns. get_or ns k 0) (sym names_are) ∙ name_at (table_of m) k (omega (arith, table_length)))
-      (λ ge. absurd (some_none n (e ∙ slice_get_past m.names k (omega (arith, l.named)))))
-      (cases_lt k (width m))
+  pub name_is : (k : ℕ) → unwrap_or (slice_get m.names k) 0 ≡ name_of (table_of m) k
+  name_is k = unwrap_or-slice_get m.names k 0 ∙ ap (λ ns. get_or ns k 0) (sym names_are) ∙ get_or-map (λ (e : Entry). e.name) (table_of m) k blank_entry
 
-  pub name_none : (k : ℕ) → None ≡ slice_get m.names k → 0 ≡ name_of (table_of m) k
-  name_none k e =
-      ⊎_elim
-      (λ lt. absurd (some_none _ (sym (e ∙ slice_get-get_or m.names k 0 (omega (arith, l.named))))))
-      (λ ge. ap (λ x. x.name) (sym (get_or_past (table_of m) k blank_entry (omega (arith, table_length)))))
-      (cases_lt k (width m))
-
-  pub making_some : (k : ℕ) (x : Making) → Some x ≡ slice_get m.makings k → x ≡ (entry_at (table_of m) k).making
-  making_some k x e =
-      ⊎_elim
-      (λ lt. some_same _ _ (e ∙ slice_get-get_or m.makings k Input lt) ∙ ap (λ ms. get_or ms k Input) (sym makings_are) ∙ making_at (table_of m) k (omega (arith, table_length)))
-      (λ ge. absurd (some_none x (e ∙ slice_get_past m.makings k ge)))
-      (cases_lt k (width m))
-
-  pub making_none : (k : ℕ) → None ≡ slice_get m.makings k → Constant false ≡ (entry_at (table_of m) k).making
-  making_none k e =
-      ⊎_elim
-      (λ lt. absurd (some_none _ (sym (e ∙ slice_get-get_or m.makings k Input lt))))
-      (λ ge. ap (λ x. x.making) (sym (get_or_past (table_of m) k blank_entry (omega (arith, table_length)))))
-      (cases_lt k (width m))
+  pub making_is : (k : ℕ) → unwrap_or (slice_get m.makings k) (Constant false) ≡ (entry_at (table_of m) k).making
+  making_is k =
+      unwrap_or-slice_get m.makings k (Constant false) ∙ ap (λ ms. get_or ms k (Constant false)) (sym makings_are)
+      ∙ get_or-map (λ (e : Entry). e.making) (table_of m) k blank_entry
 
   names_small : (a : ℕ) → (entry_at (table_of m) a).name < 2 ^ 32
   names_small a =
@@ -88,11 +63,8 @@ module _ (m : Meaning) (l : Lawful m) where
       (λ ge. subst (λ e. e.name < 2 ^ 32) (sym (get_or_past (table_of m) a blank_entry ge)) (omega arith))
       (cases_lt a (length (table_of m)))
 
-  short : length (written m) ≤ 67108864
+  pub short : length (written m) ≤ 67108864
   short = written_len m.inputs m.outputs (table_of m) names_small sound.laws.enough sound.most (omega (arith, sound.most, sound.outputs_fit))
-
-  pub measured : (out : List ℕ) → Room false out 0 (written m)
-  measured out = record { fits = omega (arith, short); room = λ y. absurd (both_ways false refl y) }
 
   pub reads_back : ReadsBack m
   reads_back =

@@ -1,8 +1,7 @@
-use Rattle.std.proofs.Common.{◌+◌, length, sym, ap, subst}
-use Rattle.runs.specs.Calls.{Asked, of_plan}
-use Rattle.runs.specs.Steps.{SteppedOn}
-use Rattle.runs.specs.declared.calls.Call.TheVariants as call
-use Rattle.plannings.proofs.Planned.{finished}
+use Rattle.std.proofs.Common.{◌+◌, sym, ap, subst}
+use Rattle.runs.specs.Steps.{Ended}
+use Rattle.runs.specs.Told.{Told, DoesTold}
+use Rattle.plannings.proofs.Planned.{event, finished}
 use Rattle.plannings.proofs.finish.Goals as goal
 
 pub returns : goal.returns
@@ -13,6 +12,6 @@ returns g c ordered wires new =
     let before = c.args.room.now in
     let after = c.plan.new.out in
     let on = c.step_on.ensures in
-    finished (P.circuit first) ordered before c.plan.result after (P.shows first) (P.shows last) c.step_on.result (P.circuit last) new
-    (subst (λ k. SteppedOn (P.circuit first) (P.shows first) k c.step_on.result (P.circuit last) (P.shows last)) (ap (λ n. n + 1) (sym wires)) on)
-    (subst (λ x. Asked x (P.shows last) (call.Plan (length before)) before (of_plan c.plan.result) after) on.same c.plan.ensures)
+    finished (P.circuit first) ordered before c.plan.result after (P.shows first) (P.shows last) c.step_on.result new
+    (subst (λ k. Ended k c.step_on.result c.step_on.result.last) (ap (λ n. n + 1) (sym wires)) on.ended) on.came
+    (subst (λ x. (t : Told) → P.shows last t → DoesTold x t (event (P.circuit first) ordered before c.plan.result after) t) on.same c.plan.ensures)

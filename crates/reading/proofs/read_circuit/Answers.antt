@@ -2,12 +2,7 @@ use Rattle.std.proofs.Common.{length}
 use Rattle.reading.proofs.Accepted.{answered}
 use Rattle.reading.proofs.read_circuit.Goals as goal
 
-pub returns : goal.returns
-returns c =
+pub returns-clause-answered : goal.returns-clause-answered
+returns-clause-answered c =
     let told = c.read_into.ensures in
-    record {
-      answer = told.answer;
-      table = told.table;
-      ranks = told.ranks;
-      answered = answered c.args.text.now c.args.limit (length c.args.table.now) (length c.args.ranks.now) c.read_into.result c.args.table.now c.read_into.new.table c.args.ranks.now c.read_into.new.ranks told.answer told.table told.ranks;
-    }
+    answered c.args.text.now c.args.limit (length c.args.table.now) (length c.args.ranks.now) c.read_into.result c.args.table.now c.read_into.new.table c.args.ranks.now c.read_into.new.ranks told.answer told.table told.ranks

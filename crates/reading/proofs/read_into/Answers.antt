@@ -1,8 +1,6 @@
-use Rattle.std.proofs.Common.{sym, arith}
-use Rattle.reading.proofs.Heads.{bounds, front_length}
+use Rattle.std.proofs.Common.{sym}
+use Rattle.reading.proofs.Heads.{bounds}
 use Rattle.reading.proofs.read_into.Goals as goal
 
-pub read_body-requires : goal.read_body-requires
-read_body-requires c =
-    let b = bounds c.args.text.now 0 _ (sym c.in_ok-header.ensures.result) in
-    record { rows = front_length _ _ (omega arith); names = front_length _ _ (omega arith); few = b.inputs }
+pub read_body-requires-clause-few : goal.read_body-requires-clause-few
+read_body-requires-clause-few c = (bounds c.args.text.now 0 _ (sym c.in_ok-header.ensures.result)).inputs

@@ -1,16 +1,19 @@
-use Rattle.std.proofs.Common.{false, take}
+use Rattle.std.proofs.Common.{◌≡◌, take, subst}
+use Rattle.search.specs.Graphs.{goalless}
+use Rattle.search.specs.Walks.{Hunted}
 use Rattle.search.proofs.Hunts.{begins_at, only_marks}
 use Rattle.search.proofs.mark_reached.Goals as goal
 
 pub returns : goal.returns
 returns g c =
     let t = g.G.Graph.meaning c.args.graph.now in
-    let rows = c.in_ok-rows.rows in
+    let w = c.in_ok-walker.walker in
     let m = c.args.memory.now in
-    let m₂ = c.hunt.new.memory in
-    let placed = c.in_ok-rows.ensures in (
-      placed.0,
-      only_marks t t.extent t.many m m₂ c.hunt.result
-          (begins_at t false rows.base rows.count m c.clear.new.memory m₂ (g.met.G.Graph.inside c.args.graph.now (take t.extent m)) placed.1 placed.2
-          c.clear.ensures.kept c.clear.ensures.clear c.hunt.result c.hunt.ensures),
+    let (room, same) = c.in_ok-walker.ensures in (
+      room,
+      only_marks t t.extent t.many m c.hunt.new.memory c.hunt.result
+          (begins_at (goalless t) w.base w.count m c.clear.new.memory c.hunt.new.memory (g.met.G.Graph.inside c.args.graph.now (take t.extent m))
+          (subst (λ x. w.base ≡ (g.G.Graph.meaning x.graph.now).extent) same w.lists) (subst (λ x. w.count ≡ (g.G.Graph.meaning x.graph.now).many) same w.places)
+          c.clear.ensures.kept c.clear.ensures.clear c.hunt.result
+          (subst (λ x. Hunted (goalless (g.G.Graph.meaning x.graph.now)) w.base w.count c.clear.new.memory c.hunt.new.memory 0 c.hunt.result) same c.hunt.ensures)),
     )

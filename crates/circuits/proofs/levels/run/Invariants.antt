@@ -4,4 +4,4 @@ use Rattle.circuits.proofs.levels.run.Given as goal
 
 abbrev pub invariant-loop-rank : goal.invariant-loop-rank
 invariant-loop-rank g l =
-    Going (g.C.Circuit.meaning l.circuit).makings (rules (g.S.Growth.tables l.scheme) g.S.Scheme.most g.S.Scheme.renewed) l.plan l.initial.memory l.memory l.rank l.at
+    Going (g.C.Circuit.meaning l.circuit).makings (rules (g.S.Growth.tables l.scheme) g.S.Scheme.LIMIT g.S.Scheme.FRESH) l.plan l.initial.memory l.memory l.rank l.due

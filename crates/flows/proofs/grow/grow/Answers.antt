@@ -1,50 +1,68 @@
-use Rattle.std.proofs.Common.{◌+◌, ◌-◌, ◌/◌, ◌^◌, ◌<◌, arith}
+use Rattle.std.proofs.Common.{◌≡◌, ◌+◌, ◌-◌, ◌/◌, ◌^◌, ◌<◌, sym, ap, ◌∙◌, subst, arith}
 use Rattle.routes.specs.Routes.{Ordered}
 use Rattle.rows.specs.Held.{circuit_of, bars_of}
-use Rattle.flows.specs.Kept.{flow_in, routes_in}
-use Rattle.flows.specs.Stacks.{Pending, stacked}
+use Rattle.flows.specs.Kept.{flow_in, routes_in, Changed}
+use Rattle.flows.specs.Stacks.{Pending, Pushed, stacked, begun_at}
+use Rattle.rows.proofs.Rooms.{room_of}
 use Rattle.flows.proofs.Grows.{end_ready, all_ready, begin_ready, grown}
 use Rattle.flows.proofs.grow.grow.Goals as goal
 
-pub end_one-requires : goal.end_one-requires
-end_one-requires c =
-    let m = c.args.memory.now in
-    let n = c.args.wires in
-    let t : (c.stack_at-last.result / 2 < c.args.wires) × ((flow_in c.args.memory.now c.args.wires).finish (c.stack_at-last.result / 2) + 1 < 2 ^ 32) =
-    end_ready n c.args.height m c.requires.room c.requires.ordered c.requires.flows c.requires.stack c.requires.unblocked c.stack_at-last.result c.stack_at-last.ensures in
-    record { room = c.requires.room; wire = t.0; few = t.1 }
+pub end_one-requires-clause-few : goal.end_one-requires-clause-few
+end_one-requires-clause-few c =
+    (end_ready c.args.rows.now.wires c.args.height c.args.rows.now.memory.now (room_of c.args.rows.now)
+    c.requires.ordered c.requires.flows c.requires.stack c.requires.unblocked c.stack_at-last.result c.stack_at-last.ensures).1
 
-pub push_all-requires : goal.push_all-requires
-push_all-requires c =
-    let m = c.args.memory.now in
-    let n = c.args.wires in
-    let l = c.end_one.new.memory in
-    let t : Ordered (circuit_of l n) × (routes_in l n + 2 ^ 22 < 2 ^ 32)
-    × Pending (circuit_of l n) (bars_of l n) n c.args.height (stacked l n) (routes_in l n) (flow_in l n) (c.args.height - 1) =
-    all_ready n c.args.height m c.requires.room c.requires.ordered c.requires.flows c.requires.stack c.requires.unblocked c.stack_at-last.result c.stack_at-last.ensures
-    l c.end_one.ensures in
-    record {
-      room = record { few = c.requires.room.few; rows = omega (arith, c.requires.room.rows, c.end_one.auto.memory) };
-      ordered = t.0;
-      few = t.1;
-      pending = t.2;
-    }
+-- what is known when the unit has ended
+module _ (c : goal.After-push_all-arg-1) where
+  pub pending : Ordered (circuit_of c.end_one.new.rows.memory.now c.args.rows.now.wires)
+      × (routes_in c.end_one.new.rows.memory.now c.args.rows.now.wires + 2 ^ 22 < 2 ^ 32)
+      × Pending (circuit_of c.end_one.new.rows.memory.now c.args.rows.now.wires) (bars_of c.end_one.new.rows.memory.now c.args.rows.now.wires) c.args.rows.now.wires c.args.height
+      (stacked c.end_one.new.rows.memory.now c.args.rows.now.wires) (routes_in c.end_one.new.rows.memory.now c.args.rows.now.wires)
+      (flow_in c.end_one.new.rows.memory.now c.args.rows.now.wires) (c.args.height - 1)
+  pending =
+      all_ready c.args.rows.now.wires c.args.height c.args.rows.now.memory.now (room_of c.args.rows.now)
+      c.requires.ordered c.requires.flows c.requires.stack c.requires.unblocked c.stack_at-last.result c.stack_at-last.ensures
+      c.end_one.new.rows.memory.now c.end_one.ensures.flow
 
-pub begin_one-requires : goal.begin_one-requires
-begin_one-requires c =
-    let m = c.args.memory.now in
-    let n = c.args.wires in
-    let t : (c.stack_at-first.result / 2 < n) × ((flow_in c.push_all.new.memory n).start (c.stack_at-first.result / 2) + 1 < 2 ^ 32) =
-    begin_ready n c.args.height m c.requires.room c.requires.ordered c.requires.flows c.requires.stack c.requires.unblocked c.stack_at-last.result c.stack_at-last.ensures
-    c.end_one.new.memory c.end_one.ensures c.push_all.new.memory c.push_all.ensures c.stack_at-first.result c.stack_at-first.ensures in
-    record {
-      room = record { few = c.requires.room.few; rows = omega (arith, c.requires.room.rows, c.end_one.auto.memory, c.push_all.auto.memory) };
-      wire = t.0;
-      few = t.1;
-    }
+pub push_all-requires-clause-few : goal.push_all-requires-clause-few
+push_all-requires-clause-few c = subst (λ n. routes_in c.end_one.new.rows.memory.now n + 2 ^ 22 < 2 ^ 32) (sym c.end_one.ensures.same.wires) (pending c).1
 
-pub returns : goal.returns
-returns c =
-    grown c.args.wires c.args.height c.args.memory.now c.requires.room c.requires.ordered c.requires.flows c.requires.stack c.requires.unblocked
-    c.stack_at-last.result c.stack_at-last.ensures c.end_one.new.memory c.end_one.ensures c.push_all.new.memory c.push_all.ensures
-    c.stack_at-first.result c.stack_at-first.ensures c.begin_one.new.memory c.begin_one.ensures
+pub push_all-requires-clause-pending : goal.push_all-requires-clause-pending
+push_all-requires-clause-pending c =
+    let m = c.end_one.new.rows.memory.now in
+    subst (λ n. Pending (circuit_of m n) (bars_of m n) n c.args.height (stacked m n) (routes_in m n) (flow_in m n) (c.args.height - 1))
+    (sym c.end_one.ensures.same.wires) (pending c).2
+
+-- what is known when the unit has been sent along the path
+module _ (c : goal.After-begin_one-arg-1) where
+  pub wires : c.push_all.new.rows.wires ≡ c.args.rows.now.wires
+  wires = c.push_all.ensures.same.wires ∙ c.end_one.ensures.same.wires
+
+  pub pushed : Pushed c.args.rows.now.wires c.args.height c.end_one.new.rows.memory.now c.push_all.new.rows.memory.now 0
+  pushed = subst (λ n. Pushed n c.args.height c.end_one.new.rows.memory.now c.push_all.new.rows.memory.now 0) c.end_one.ensures.same.wires c.push_all.ensures.memory
+
+  pub begins : (c.stack_at-first.result / 2 < c.args.rows.now.wires)
+      × ((flow_in c.push_all.new.rows.memory.now c.args.rows.now.wires).start (c.stack_at-first.result / 2) + 1 < 2 ^ 32)
+  begins =
+      begin_ready c.args.rows.now.wires c.args.height c.args.rows.now.memory.now (room_of c.args.rows.now)
+      c.requires.ordered c.requires.flows c.requires.stack c.requires.unblocked c.stack_at-last.result c.stack_at-last.ensures
+      c.end_one.new.rows.memory.now c.end_one.ensures.flow c.push_all.new.rows.memory.now pushed
+      c.stack_at-first.result (c.stack_at-first.ensures ∙ ap (λ n. stacked c.push_all.new.rows.memory.now n 0) wires)
+
+pub begin_one-requires-clause-wire : goal.begin_one-requires-clause-wire
+begin_one-requires-clause-wire c = omega (arith, (begins c).0, wires c)
+
+pub begin_one-requires-clause-few : goal.begin_one-requires-clause-few
+begin_one-requires-clause-few c =
+    subst (λ n. (flow_in c.push_all.new.rows.memory.now n).start (c.stack_at-first.result / 2) + 1 < 2 ^ 32) (sym (wires c)) (begins c).1
+
+pub returns-clause-memory : goal.returns-clause-memory
+returns-clause-memory c =
+    let wires : c.push_all.new.rows.wires ≡ c.args.rows.now.wires = c.push_all.ensures.same.wires ∙ c.end_one.ensures.same.wires in
+    grown c.args.rows.now.wires c.args.height c.args.rows.now.memory.now (room_of c.args.rows.now)
+    c.requires.ordered c.requires.flows c.requires.stack c.requires.unblocked c.stack_at-last.result c.stack_at-last.ensures
+    c.end_one.new.rows.memory.now c.end_one.ensures.flow c.push_all.new.rows.memory.now
+    (subst (λ n. Pushed n c.args.height c.end_one.new.rows.memory.now c.push_all.new.rows.memory.now 0) c.end_one.ensures.same.wires c.push_all.ensures.memory)
+    c.stack_at-first.result (c.stack_at-first.ensures ∙ ap (λ n. stacked c.push_all.new.rows.memory.now n 0) wires)
+    c.begin_one.new.rows.memory.now
+    (subst (λ n. Changed n c.push_all.new.rows.memory.now (begun_at (c.stack_at-first.result / 2) (flow_in c.push_all.new.rows.memory.now n)) c.begin_one.new.rows.memory.now) wires c.begin_one.ensures.flow)

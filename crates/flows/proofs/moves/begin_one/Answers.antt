@@ -1,13 +1,13 @@
-use Rattle.std.proofs.Common.{arith}
 use Rattle.flows.specs.Kept.{flow_in}
+use Rattle.rows.proofs.Rooms.{room_of}
 use Rattle.flows.proofs.Writes.{changed_at, start_raised}
 use Rattle.flows.proofs.moves.begin_one.Goals as goal
 
-pub raise-requires : goal.raise-requires
+pub raise-requires-clause-few : goal.raise-requires-clause-few
 unfolding flow_in
-raise-requires c = record { room = c.requires.room; row = omega arith; wire = c.requires.wire; few = c.requires.few }
+raise-requires-clause-few c = c.requires.few
 
-pub returns : goal.returns
-returns c =
-    changed_at c.raise.ensures
-    (start_raised c.args.memory.now c.args.wires c.args.wire c.requires.room c.requires.wire)
+pub returns-clause-flow : goal.returns-clause-flow
+returns-clause-flow c =
+    changed_at c.raise.ensures.memory
+    (start_raised c.args.rows.now.memory.now c.args.rows.now.wires c.args.wire (room_of c.args.rows.now) c.requires.wire)

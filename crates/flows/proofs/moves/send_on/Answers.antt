@@ -1,56 +1,52 @@
 use Rattle.std.proofs.Common.{sym, ◌∙◌, arith}
 use Rattle.routes.specs.Routes.{at}
-use Rattle.routes.specs.Stored.{First, Second}
 use Rattle.rows.specs.Rows.{cell}
 use Rattle.rows.specs.Held.{circuit_of}
 use Rattle.flows.proofs.Kept.{along_is}
+use Rattle.rows.proofs.Rooms.{room_of}
 use Rattle.flows.proofs.Writes.{is_first, is_second, first_within, second_within, first_raised, second_raised, changed_at}
 use Rattle.flows.proofs.moves.send_on.Goals as goal
 
-pub raise-requires : goal.raise-requires
-raise-requires c =
-    let m = c.args.memory.now in
-    let f : First (at (circuit_of m c.args.wires) c.args.wire) c.args.from =
-    is_first m c.args.wires c.args.from c.args.wire c.requires.fed (sym c.get.ensures ∙ c.if-get-from.true) in
-    record {
-      room = c.requires.room;
-      row = omega arith;
-      wire = c.requires.wire;
-      few = omega (
-        arith,
-        c.requires.few,
-        along_is m c.args.wires c.args.from c.args.wire,
-        first_within (at (circuit_of m c.args.wires) c.args.wire) (cell m c.args.wires 9 c.args.wire) (cell m c.args.wires 10 c.args.wire) c.args.from f,
-      );
-    }
+pub raise-requires-clause-few : goal.raise-requires-clause-few
+raise-requires-clause-few c =
+    let m = c.args.rows.now.memory.now in
+    let n = c.args.rows.now.wires in
+    let w = c.args.wire in
+    omega (
+      arith,
+      c.requires.few,
+      along_is m n c.args.from w,
+      first_within (at (circuit_of m n) w) (cell m n 9 w) (cell m n 10 w) c.args.from
+          (is_first m n c.args.from w c.requires.fed (sym c.get.ensures ∙ c.if-get-from.true)),
+    )
 
-pub raise-requires-else-get-from : goal.raise-requires-else-get-from
-raise-requires-else-get-from c =
-    let m = c.args.memory.now in
-    let f : Second (at (circuit_of m c.args.wires) c.args.wire) c.args.from =
-    is_second m c.args.wires c.args.from c.args.wire c.requires.fed (λ e. c.if-get-from.false (c.get.ensures ∙ e)) in
-    record {
-      room = c.requires.room;
-      row = omega arith;
-      wire = c.requires.wire;
-      few = omega (
-        arith,
-        c.requires.few,
-        along_is m c.args.wires c.args.from c.args.wire,
-        second_within (at (circuit_of m c.args.wires) c.args.wire) (cell m c.args.wires 9 c.args.wire) (cell m c.args.wires 10 c.args.wire) c.args.from f,
-      );
-    }
+pub raise-requires-else-get-from-clause-few : goal.raise-requires-else-get-from-clause-few
+raise-requires-else-get-from-clause-few c =
+    let m = c.args.rows.now.memory.now in
+    let n = c.args.rows.now.wires in
+    let w = c.args.wire in
+    omega (
+      arith,
+      c.requires.few,
+      along_is m n c.args.from w,
+      second_within (at (circuit_of m n) w) (cell m n 9 w) (cell m n 10 w) c.args.from
+          (is_second m n c.args.from w c.requires.fed (λ e. c.if-get-from.false (c.get.ensures ∙ e))),
+    )
 
-pub returns-then-get-from : goal.returns-then-get-from
-returns-then-get-from c =
-    let m = c.args.memory.now in
-    changed_at c.raise.ensures
-    (first_raised m c.args.wires c.args.wire c.requires.room c.requires.wire c.args.from
-    (is_first m c.args.wires c.args.from c.args.wire c.requires.fed (sym c.get.ensures ∙ c.if-get-from.true)))
+pub returns-then-get-from-clause-flow : goal.returns-then-get-from-clause-flow
+returns-then-get-from-clause-flow c =
+    let m = c.args.rows.now.memory.now in
+    let n = c.args.rows.now.wires in
+    let w = c.args.wire in
+    changed_at c.raise.ensures.memory
+    (first_raised m n w (room_of c.args.rows.now) c.requires.wire c.args.from
+    (is_first m n c.args.from w c.requires.fed (sym c.get.ensures ∙ c.if-get-from.true)))
 
-pub returns-else-get-from : goal.returns-else-get-from
-returns-else-get-from c =
-    let m = c.args.memory.now in
-    changed_at c.raise-else-get-from.ensures
-    (second_raised m c.args.wires c.args.wire c.requires.room c.requires.wire c.args.from
-    (is_second m c.args.wires c.args.from c.args.wire c.requires.fed (λ e. c.if-get-from.false (c.get.ensures ∙ e))))
+pub returns-else-get-from-clause-flow : goal.returns-else-get-from-clause-flow
+returns-else-get-from-clause-flow c =
+    let m = c.args.rows.now.memory.now in
+    let n = c.args.rows.now.wires in
+    let w = c.args.wire in
+    changed_at c.raise-else-get-from.ensures.memory
+    (second_raised m n w (room_of c.args.rows.now) c.requires.wire c.args.from
+    (is_second m n c.args.from w c.requires.fed (λ e. c.if-get-from.false (c.get.ensures ∙ e))))

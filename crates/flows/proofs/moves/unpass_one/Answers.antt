@@ -1,13 +1,13 @@
-use Rattle.std.proofs.Common.{arith}
 use Rattle.flows.specs.Kept.{flow_in}
+use Rattle.rows.proofs.Rooms.{room_of}
 use Rattle.flows.proofs.Writes.{changed_at, through_lowered}
 use Rattle.flows.proofs.moves.unpass_one.Goals as goal
 
-pub lower-requires : goal.lower-requires
+pub lower-requires-clause-some : goal.lower-requires-clause-some
 unfolding flow_in
-lower-requires c = record { room = c.requires.room; row = omega arith; wire = c.requires.wire; some = c.requires.some }
+lower-requires-clause-some c = c.requires.some
 
-pub returns : goal.returns
-returns c =
-    changed_at c.lower.ensures
-    (through_lowered c.args.memory.now c.args.wires c.args.wire c.requires.room c.requires.wire)
+pub returns-clause-flow : goal.returns-clause-flow
+returns-clause-flow c =
+    changed_at c.lower.ensures.memory
+    (through_lowered c.args.rows.now.memory.now c.args.rows.now.wires c.args.wire (room_of c.args.rows.now) c.requires.wire)

@@ -1,11 +1,11 @@
-use Rattle.std.proofs.Common.{◌+◌, sym, subst, arith}
-use Rattle.flows.specs.Numbers.{Marked}
-use Rattle.flows.proofs.Endings.{marked_more}
+use Rattle.std.proofs.Common.{◌+◌, ◌*◌, ap}
+use Rattle.rows.proofs.Rooms.{room_of}
+use Rattle.flows.proofs.Endings.{marked}
 use Rattle.flows.proofs.number.mark_ends.Goals as goal
 
-pub loop-i-preserved : goal.loop-i-preserved
-loop-i-preserved c =
-    subst (λ m. Marked c.args.wires c.args.memory.now m c.args.from (c.loop-i.i + 1) c.args.wire) (sym c.put.ensures)
-    (marked_more c.args.wires c.args.memory.now c.loop-i.memory c.args.from c.loop-i.i c.args.wire
-    (record { few = c.requires.room.few; rows = omega (arith, c.requires.room.rows, c.loop-i.auto.memory) })
-    (omega (arith, c.loop-i-test.true, c.requires.within)) (omega arith) c.loop-i.invariant)
+pub returns-clause-memory : goal.returns-clause-memory
+returns-clause-memory c =
+    let n = c.args.rows.now.wires in
+    marked n c.args.rows.now.memory.now c.fill.new.self c.args.from c.args.to c.args.wire (c.number.result * n + c.args.from) (c.number.result * n + c.args.to)
+    (room_of c.args.rows.now) c.requires.order c.requires.within (ap (λ r. r * n + c.args.from) c.number.ensures) (ap (λ r. r * n + c.args.to) c.number.ensures)
+    (c.fill.ensures.after (λ y e. e))

@@ -1,29 +1,34 @@
-use Rattle.std.proofs.Common.{sym, subst, arith}
-use Rattle.routes.specs.Routes.{Ordered}
+use Rattle.std.proofs.Common.{subst, arith}
 use Rattle.rows.specs.Rows.{Between}
 use Rattle.rows.proofs.Cells.{only_then, only_wider}
-use Rattle.flows.proofs.Kept.{circuit_kept, flows_kept, routes_kept}
+use Rattle.flows.specs.Numbers.{Numbering}
+use Rattle.flows.proofs.Kept.{flows_after, routes_after}
 use Rattle.flows.proofs.Endings.{ready}
 use Rattle.flows.proofs.number.prepare.Goals as goal
 
-pub number_units-requires : goal.number_units-requires
-number_units-requires c =
-    let m = c.args.memory.now in
-    let n = c.args.wires in
-    let l = c.number_ends.new.memory in
-    let o = c.number_ends.ensures.rest in
-    record {
-      room = record { few = c.requires.room.few; rows = omega (arith, c.requires.room.rows, c.number_ends.auto.memory) };
-      ordered = subst Ordered (sym (circuit_kept (Between 18 19) n m l (λ r l f. omega arith) o)) c.requires.ordered;
-      flows = flows_kept (Between 18 19) n m l (λ r l f. omega arith) o c.requires.flows;
-      few = omega (arith, c.requires.few, c.requires.room.few, routes_kept (Between 18 19) n m l (λ r l f. omega arith) o);
-    }
+pub number_units-requires-clause-flows : goal.number_units-requires-clause-flows
+number_units-requires-clause-flows c =
+    flows_after (Between 18 19) c.args.rows.now c.number_ends.new.rows c.number_ends.ensures.same (λ r l f. omega arith) c.number_ends.ensures.memory.rest c.requires.flows
 
-pub returns : goal.returns
-returns c =
+pub number_units-requires-clause-few : goal.number_units-requires-clause-few
+number_units-requires-clause-few c =
+    omega (
+      arith,
+      c.requires.few,
+      c.args.rows.now.few,
+      routes_after (Between 18 19) c.args.rows.now c.number_ends.new.rows c.number_ends.ensures.same (λ r l f. omega arith) c.number_ends.ensures.memory.rest,
+    )
+
+pub returns-clause-memory : goal.returns-clause-memory
+returns-clause-memory c =
+    let n = c.args.rows.now.wires in
+    let m = c.args.rows.now.memory.now in
+    let l = c.number_ends.new.rows.memory.now in
+    let k = c.number_units.new.rows.memory.now in
+    let numbered = subst (λ n. Numbering n l k n) c.number_ends.ensures.same.wires c.number_units.ensures.memory in
     record {
-      ready = ready c.args.wires c.args.memory.now c.number_ends.new.memory c.number_units.new.memory c.number_ends.ensures c.number_units.ensures;
-      rest = only_then (Between 15 19) c.args.wires c.args.memory.now c.number_ends.new.memory c.number_units.new.memory
-          (only_wider (Between 15 19) c.args.wires (Between 18 19) c.args.memory.now c.number_ends.new.memory (λ r f. (omega (arith, f.0), f.1)) c.number_ends.ensures.rest)
-          (only_wider (Between 15 19) c.args.wires (Between 15 17) c.number_ends.new.memory c.number_units.new.memory (λ r f. (f.0, omega (arith, f.1))) c.number_units.ensures.rest);
+      ready = ready n m l k c.number_ends.ensures.memory numbered;
+      rest = only_then (Between 15 19) n m l k
+          (only_wider (Between 15 19) n (Between 18 19) m l (λ r f. (omega (arith, f.0), f.1)) c.number_ends.ensures.memory.rest)
+          (only_wider (Between 15 19) n (Between 15 17) l k (λ r f. (f.0, omega (arith, f.1))) numbered.rest);
     }

@@ -10,8 +10,8 @@ pub bounds-out-len : goal.bounds-out-len
 bounds-out-len c =
     omega (
       arith,
-      listing_room (border (marks c.args.memory.now c.args.wires)) c.loop-w.w c.loop-w.len c.args.out.now c.loop-w.out c.loop-w.invariant
-          (sym c.on_border.ensures ∙ c.if-on_border.true) c.args.wires (length c.args.out.now) c.loop-w-test.true c.requires.long,
+      listing_room (border (marks c.args.rows.now.memory.now c.args.rows.now.wires)) c.loop-w.w c.loop-w.len c.args.out.now c.loop-w.out c.loop-w.invariant
+          (sym c.on_border.ensures ∙ c.if-on_border.true) c.args.rows.now.wires (length c.args.out.now) c.loop-w-test.true c.requires.long,
       c.loop-w.auto.out,
     )
 
@@ -19,17 +19,17 @@ pub loop-w-preserved : goal.loop-w-preserved
 loop-w-preserved c =
     elim c.if-on_border.branch [
       | then-on_border w ↦
-          subst₂ (λ len out. Listing (border (marks c.args.memory.now c.args.wires)) (c.loop-w.w + 1) len c.args.out.now out) (sym w.len-is) (sym w.out-is)
-          (listing_taken (border (marks c.args.memory.now c.args.wires)) c.loop-w.w c.loop-w.len c.args.out.now c.loop-w.out c.loop-w.invariant
+          subst₂ (λ len out. Listing (border (marks c.args.rows.now.memory.now c.args.rows.now.wires)) (c.loop-w.w + 1) len c.args.out.now out) (sym w.len-is) (sym w.out-is)
+          (listing_taken (border (marks c.args.rows.now.memory.now c.args.rows.now.wires)) c.loop-w.w c.loop-w.len c.args.out.now c.loop-w.out c.loop-w.invariant
           (sym c.on_border.ensures ∙ w.if-on_border.true)
           (omega (
             arith,
-            listing_room (border (marks c.args.memory.now c.args.wires)) c.loop-w.w c.loop-w.len c.args.out.now c.loop-w.out c.loop-w.invariant
-                (sym c.on_border.ensures ∙ w.if-on_border.true) c.args.wires (length c.args.out.now) c.loop-w-test.true c.requires.long,
+            listing_room (border (marks c.args.rows.now.memory.now c.args.rows.now.wires)) c.loop-w.w c.loop-w.len c.args.out.now c.loop-w.out c.loop-w.invariant
+                (sym c.on_border.ensures ∙ w.if-on_border.true) c.args.rows.now.wires (length c.args.out.now) c.loop-w-test.true c.requires.long,
             c.loop-w.auto.out,
           )))
       | else-on_border w ↦
-          subst₂ (λ len out. Listing (border (marks c.args.memory.now c.args.wires)) (c.loop-w.w + 1) len c.args.out.now out) (sym w.len-is) (sym w.out-is)
-          (listing_left (border (marks c.args.memory.now c.args.wires)) c.loop-w.w c.loop-w.len c.args.out.now c.loop-w.out c.loop-w.invariant
+          subst₂ (λ len out. Listing (border (marks c.args.rows.now.memory.now c.args.rows.now.wires)) (c.loop-w.w + 1) len c.args.out.now out) (sym w.len-is) (sym w.out-is)
+          (listing_left (border (marks c.args.rows.now.memory.now c.args.rows.now.wires)) c.loop-w.w c.loop-w.len c.args.out.now c.loop-w.out c.loop-w.invariant
           (sym c.on_border.ensures ∙ w.if-on_border.false))
     ]

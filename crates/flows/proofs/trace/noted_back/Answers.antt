@@ -5,54 +5,57 @@ use Rattle.flows.specs.Units.{Leading}
 use Rattle.flows.proofs.Units.{leading_first, giver_lower, giver_few, leading_more, leading_last}
 use Rattle.flows.proofs.trace.noted_back.Goals as goal
 
-pub loop-k-init : goal.loop-k-init
-loop-k-init c =
-    leading_first (circuit_of c.args.memory.now c.args.wires) c.requires.ordered (bars_of c.args.memory.now c.args.wires) (flow_in c.args.memory.now c.args.wires) c.requires.flows
-    c.args.i c.args.wires c.ending_noted-w.result.0 c.ending_noted-w.result.1 c.args.out.now (omega (arith, c.requires.long, c.ending_noted-w.ensures.within)) c.ending_noted-w.ensures
+pub loop-at-init : goal.loop-at-init
+loop-at-init c =
+    let m = c.args.rows.now.memory.now in
+    let n = c.args.rows.now.wires in
+    leading_first (circuit_of m n) c.requires.ordered (bars_of m n) (flow_in m n) c.requires.flows c.args.i n
+    c.ending_noted-at.result.wire c.ending_noted-at.result.number c.args.out.now (omega (arith, c.requires.long, c.ending_noted-at.ensures.within)) c.ending_noted-at.ensures
 
-pub giver-v-requires : goal.giver-v-requires
+pub giver-from-requires-clause-later : goal.giver-from-requires-clause-later
 unfolding flow_in
-giver-v-requires c =
-    record {
-      room = c.requires.room;
-      ordered = c.requires.ordered;
-      flows = c.requires.flows;
-      wire = omega (arith, c.loop-k.invariant.begun, c.loop-k.invariant.high);
-      some = c.loop-k.invariant.some;
-      later = omega (arith, c.get.ensures, c.loop-k-test.true);
-    }
+giver-from-requires-clause-later c = omega (arith, c.get.ensures, c.loop-at-test.true)
 
-pub noted_before-first-requires : goal.noted_before-first-requires
-noted_before-first-requires c =
-    record {
-      room = c.requires.room;
-      wire = omega (arith, c.loop-k.invariant.begun, c.loop-k.invariant.high);
-      fed = c.requires.flows.passed_on c.giver-v.result.0 c.loop-k.w (omega (arith, c.giver-v.ensures.some));
-      numbered = c.requires.ready.numbers;
-    }
+pub overflow_add-at : goal.overflow_add-at
+overflow_add-at c =
+    omega (
+      arith,
+      giver_few c.args.rows.now.wires c.args.rows.now.memory.now c.requires.ordered c.requires.flows c.loop-at.at.wire c.loop-at.at.number
+          c.giver-from.result.wire c.giver-from.result.number c.giver-from.ensures,
+      c.requires.few,
+      c.args.rows.now.few,
+      c.noted_before-first.ensures,
+    )
 
-pub overflow_add-k : goal.overflow_add-k
-overflow_add-k c = omega (arith, giver_few c.args.wires c.args.memory.now c.requires.ordered c.requires.flows c.loop-k.w c.loop-k.k c.giver-v.result.0 c.giver-v.result.1 c.giver-v.ensures, c.requires.few, c.requires.room.few, c.noted_before-first.ensures)
+pub loop-at-smaller : goal.loop-at-smaller
+loop-at-smaller c =
+    giver_lower c.args.rows.now.wires c.args.rows.now.memory.now c.requires.ordered c.requires.flows c.loop-at.at.wire c.loop-at.at.number
+    c.giver-from.result.wire c.giver-from.result.number c.giver-from.ensures
 
-pub bounds-out-len : goal.bounds-out-len
-bounds-out-len c =
-    omega (arith, giver_lower c.args.wires c.args.memory.now c.requires.ordered c.requires.flows c.loop-k.w c.loop-k.k c.giver-v.result.0 c.giver-v.result.1 c.giver-v.ensures, c.loop-k.invariant.high, c.requires.long, c.loop-k.auto.out, length-set c.args.out.now 0 c.ending_noted-w.result.0)
-
-pub loop-k-smaller : goal.loop-k-smaller
-loop-k-smaller c = giver_lower c.args.wires c.args.memory.now c.requires.ordered c.requires.flows c.loop-k.w c.loop-k.k c.giver-v.result.0 c.giver-v.result.1 c.giver-v.ensures
-
-pub loop-k-preserved : goal.loop-k-preserved
-loop-k-preserved c =
-    let l : c.loop-k.len < length c.loop-k.out =
-    omega (arith, giver_lower c.args.wires c.args.memory.now c.requires.ordered c.requires.flows c.loop-k.w c.loop-k.k c.giver-v.result.0 c.giver-v.result.1 c.giver-v.ensures, c.loop-k.invariant.high, c.requires.long, c.loop-k.auto.out, length-set c.args.out.now 0 c.ending_noted-w.result.0) in
-    subst (λ k. Leading (flow_in c.args.memory.now c.args.wires) c.args.i c.args.wires c.giver-v.result.0 (k + c.giver-v.result.1) (c.loop-k.len + 1)
-    (set c.args.out.now 0 c.ending_noted-w.result.0) (set c.loop-k.out c.loop-k.len c.giver-v.result.0)) (sym c.noted_before-first.ensures)
-    (leading_more (circuit_of c.args.memory.now c.args.wires) c.requires.ordered (bars_of c.args.memory.now c.args.wires) (flow_in c.args.memory.now c.args.wires) c.requires.flows
-    c.args.i c.args.wires c.loop-k.w c.loop-k.k c.loop-k.len (set c.args.out.now 0 c.ending_noted-w.result.0) c.loop-k.out c.loop-k.invariant c.giver-v.result.0 c.giver-v.result.1 c.giver-v.ensures l)
+pub loop-at-preserved : goal.loop-at-preserved
+loop-at-preserved c =
+    let m = c.args.rows.now.memory.now in
+    let n = c.args.rows.now.wires in
+    let before = set c.args.out.now 0 c.ending_noted-at.result.wire in
+    let l : c.loop-at.len < length c.loop-at.out =
+    omega (
+      arith,
+      giver_lower n m c.requires.ordered c.requires.flows c.loop-at.at.wire c.loop-at.at.number c.giver-from.result.wire c.giver-from.result.number c.giver-from.ensures,
+      c.loop-at.invariant.high,
+      c.requires.long,
+      c.loop-at.auto.out,
+      length-set c.args.out.now 0 c.ending_noted-at.result.wire,
+    ) in
+    subst (λ k. Leading (flow_in m n) c.args.i n c.giver-from.result.wire (k + c.giver-from.result.number) (c.loop-at.len + 1) before
+    (set c.loop-at.out c.loop-at.len c.giver-from.result.wire)) (sym c.noted_before-first.ensures)
+    (leading_more (circuit_of m n) c.requires.ordered (bars_of m n) (flow_in m n) c.requires.flows c.args.i n
+    c.loop-at.at.wire c.loop-at.at.number c.loop-at.len before c.loop-at.out c.loop-at.invariant c.giver-from.result.wire c.giver-from.result.number c.giver-from.ensures l)
 
 pub returns : goal.returns
 unfolding flow_in
 returns c =
-    leading_last (circuit_of c.args.memory.now c.args.wires) c.requires.ordered (bars_of c.args.memory.now c.args.wires) (flow_in c.args.memory.now c.args.wires) c.requires.flows
-    c.args.i c.args.wires c.loop-k.w c.loop-k.k c.loop-k.len c.args.out.now c.loop-k.out c.ending_noted-w.result.0 c.loop-k.invariant
-    (omega (arith, c.get.ensures, c.loop-k-test.false))
+    let m = c.args.rows.now.memory.now in
+    let n = c.args.rows.now.wires in
+    leading_last (circuit_of m n) c.requires.ordered (bars_of m n) (flow_in m n) c.requires.flows c.args.i n
+    c.loop-at.at.wire c.loop-at.at.number c.loop-at.len c.args.out.now c.loop-at.out c.ending_noted-at.result.wire c.loop-at.invariant
+    (omega (arith, c.get.ensures, c.loop-at-test.false))

@@ -1,23 +1,8 @@
-use Rattle.runs.specs.Calls.{of_bar}
-use Rattle.runs.specs.declared.calls.Call.TheVariants as call
-use Rattle.plannings.proofs.Stable.{ready_of}
-use Rattle.plannings.proofs.Telling.{called, still_ready}
+use Rattle.plannings.proofs.Telling.{ready, called}
 use Rattle.plannings.proofs.planning.PlanningPlanner.bar.Goals as goal
 
 pub bar-requires : goal.bar-requires
-bar-requires c =
-    let p = c.args.self.now.inner in
-    record { ready = ready_of p.wires p.memory.now p.kept c.args.self.now.ready }
-
-pub invariant_of-self : goal.invariant_of-self
-invariant_of-self c =
-    let p = c.args.self.now.inner in
-    let q = c.bar.new.self in
-    record { ready = ∣ still_ready p.wires q.wires q.memory.now q.kept c.bar.ensures.wires c.bar.ensures.turned.ready ∣₁ }
+bar-requires c = ready c.args.self.now
 
 pub returns : goal.returns
-returns c =
-    let p = c.args.self.now.inner in
-    let q = c.bar.new.self in
-    called p.wires p.memory.now p.kept (call.Bar c.args.rank) (of_bar c.bar.result) q.wires q.memory.now q.kept c.bar.ensures.wires
-    (ready_of p.wires p.memory.now p.kept c.args.self.now.ready) c.bar.ensures.turned
+returns c = called (ready c.args.self.now) c.bar.ensures

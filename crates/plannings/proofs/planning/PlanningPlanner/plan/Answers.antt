@@ -1,16 +1,11 @@
 use Rattle.std.proofs.Common.{length}
-use Rattle.runs.specs.Calls.{of_plan}
-use Rattle.plannings.proofs.Stable.{ready_of}
-use Rattle.plannings.proofs.Telling.{plan_asked}
+use Rattle.runs.specs.Calls.{answered_by}
+use Rattle.runs.specs.declared.calls.Answer.TheVariants as answer
+use Rattle.plannings.proofs.Telling.{ready, plan_asked}
 use Rattle.plannings.proofs.planning.PlanningPlanner.plan.Goals as goal
 
 pub plan-requires : goal.plan-requires
-plan-requires c =
-    let p = c.args.self.now.inner in
-    record { ready = ready_of p.wires p.memory.now p.kept c.args.self.now.ready }
+plan-requires c = ready c.args.self.now
 
 pub returns : goal.returns
-returns c =
-    let p = c.args.self.now.inner in
-    plan_asked p.wires p.memory.now p.kept (ready_of p.wires p.memory.now p.kept c.args.self.now.ready) c.args.out.now (of_plan c.plan.result) c.plan.new.out
-    (length c.args.out.now) c.plan.ensures
+returns c = plan_asked c.args.self.now.inner (ready c.args.self.now) c.args.out.now (answered_by answer.Planned c.plan.result) c.plan.new.out (length c.args.out.now) c.plan.ensures

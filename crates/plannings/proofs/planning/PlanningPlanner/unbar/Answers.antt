@@ -1,23 +1,8 @@
-use Rattle.runs.specs.Calls.{of_bar}
-use Rattle.runs.specs.declared.calls.Call.TheVariants as call
-use Rattle.plannings.proofs.Stable.{ready_of}
-use Rattle.plannings.proofs.Telling.{called, still_ready}
+use Rattle.plannings.proofs.Telling.{ready, called}
 use Rattle.plannings.proofs.planning.PlanningPlanner.unbar.Goals as goal
 
 pub unbar-requires : goal.unbar-requires
-unbar-requires c =
-    let p = c.args.self.now.inner in
-    record { ready = ready_of p.wires p.memory.now p.kept c.args.self.now.ready }
-
-pub invariant_of-self : goal.invariant_of-self
-invariant_of-self c =
-    let p = c.args.self.now.inner in
-    let q = c.unbar.new.self in
-    record { ready = ∣ still_ready p.wires q.wires q.memory.now q.kept c.unbar.ensures.wires c.unbar.ensures.turned.ready ∣₁ }
+unbar-requires c = ready c.args.self.now
 
 pub returns : goal.returns
-returns c =
-    let p = c.args.self.now.inner in
-    let q = c.unbar.new.self in
-    called p.wires p.memory.now p.kept (call.Unbar c.args.rank) (of_bar c.unbar.result) q.wires q.memory.now q.kept c.unbar.ensures.wires
-    (ready_of p.wires p.memory.now p.kept c.args.self.now.ready) c.unbar.ensures.turned
+returns c = called (ready c.args.self.now) c.unbar.ensures

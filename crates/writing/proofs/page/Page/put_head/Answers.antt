@@ -1,0 +1,10 @@
+use Rattle.writing.proofs.Pages.{puts_join}
+use Rattle.writing.proofs.page.Page.put_head.Goals as goal
+
+pub returns : goal.returns
+returns c =
+    puts_join c.put_number.ensures
+    (puts_join c.put_spaced.ensures
+    (puts_join c.put_byte.ensures
+    (puts_join c.put_width.ensures
+    (puts_join c.put_width-2.ensures c.put_byte-2.ensures))))
