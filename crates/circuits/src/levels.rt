@@ -15,11 +15,12 @@ fn is_produced<C: Circuit>(circuit: &C, rank: u32) -> bool
     circuit.making(rank).is_some_and(Making::is_produced)
 }
 
-// Whether the ranks are strictly ascending, and those of produced wires.
+// Whether the ranks are strictly ascending, and those of produced wires: one walk, which ends at the first rank that does not fit.
 fn plan_fits<C: Circuit>(circuit: &C, plan: &[u32]) -> bool
     ensures { result ≡ plan_fits (C.meaning circuit.now).makings 0 plan.now }
 {
-    plan.is_sorted_by(|a, b| a < b) && plan.iter().all(|rank| is_produced(circuit, *rank))
+    plan.first().is_none_or(|rank| is_produced(circuit, *rank))
+        && plan.is_sorted_by(|a, b| a < b && is_produced(circuit, *b))
 }
 
 // The own level of a wire so made, after those whose outgoing levels are given.
