@@ -1,17 +1,13 @@
 -- Laws of rows of bytes, and of `next_token`.
-use Rattle.std.proofs.Common.{◌≡◌, ℕ, suc, ◌+◌, ◌≤◌, Bool, true, false, cond, eqb, List, [], ◌∷◌, ◌++◌, length, take, drop, Ok, Result, sym, refl, ap, ◌∙◌, count_by, ⊎_elim, add-zero, one-add, arith, take-add}
+use Rattle.std.proofs.Common.{◌≡◌, ℕ, suc, ◌+◌, ◌≤◌, Bool, true, false, cond, eqb, List, [], ◌∷◌, ◌++◌, length, take, drop, Ok, Result, sym, refl, ap, ◌∙◌, ⊎_elim, add-zero, one-add, arith, take-add, length-drop}
 use Rattle.std.specs.List.{prefix_len}
-use Rattle.std.proofs.lemmas.List.{length-take-le}
-use Rattle.std.proofs.lemmas.Bool.{cases_Bool, cond-true, cond-false, ne_eqb}
+use Rattle.std.proofs.lemmas.List.{length-take-le, drop-drop}
+use Rattle.std.proofs.lemmas.Bool.{cases_Bool, cond-true, cond-false, eq-eqb, ne_eqb}
 use Rattle.std.proofs.lemmas.Bool.Decides.{nat_tests}
-use Rattle.std.proofs.lemmas.List.Recursion.{is_count_by}
 use Rattle.tokens.specs.Places.{visible, blank, ends, line_of}
 use Rattle.tokens.specs.declared.fault.Fault.{Fault}
 use Rattle.tokens.specs.Numbers.{value_of}
 use Rattle.tokens.specs.Tokens.{Piece, sorted, front, next_token, no_token}
-
-pub ends_count : (xs : List ℕ) → ends xs ≡ count_by (λ b. eqb b 10) xs
-ends_count = is_count_by ends (λ b. eqb b 10) refl (λ x xs. refl)
 
 pub ends_append : (xs ys : List ℕ) → ends (xs ++ ys) ≡ ends xs + ends ys
 ends_append [] ys = omega arith
@@ -72,3 +68,24 @@ line_le text at h = omega (arith, ends_le (take at text), length-take-le at text
 
 pub ends_next : (text : List ℕ) (at n : ℕ) → line_of text (at + n) ≡ line_of text at + ends (take n (drop at text))
 ends_next text at n = rw take-add (omega (arith, ends_append (take at text) (take n (drop at text))))
+
+-- one byte on, which stands before the bytes that are left
+module _ (text : List ℕ) (at b : ℕ) (more : List ℕ) (here : b ∷ more ≡ drop at text) where
+  pub byte_left : more ≡ drop (at + 1) text
+  byte_left = ap (drop 1) here ∙ drop-drop 1 at text
+
+  pub byte_inside : at + 1 ≤ length text
+  byte_inside = omega (arith, ap length here, length-drop at text)
+
+  byte_ends : line_of text (at + 1) ≡ line_of text at + ends (b ∷ [])
+  byte_ends = omega (arith, ends_next text at 1, ap (λ r. ends (take 1 r)) here)
+
+  pub line_next : b ≡ 10 → line_of text (at + 1) ≡ line_of text at + 1
+  line_next e =
+      let one : ends (b ∷ []) ≡ 1 = cond-true _ _ _ (eq-eqb b 10 e) in
+      omega (arith, byte_ends, one)
+
+  pub line_same : (b ≡ 10 → ⊥) → line_of text (at + 1) ≡ line_of text at
+  line_same ne =
+      let none : ends (b ∷ []) ≡ 0 = cond-false _ _ _ (ne_eqb b 10 ne) in
+      omega (arith, byte_ends, none)

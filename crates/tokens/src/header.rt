@@ -1,12 +1,11 @@
 // Reads the first three lines.
 ghost use Rattle.std.specs.Prelude.{◌≡◌};
-ghost use Rattle.tokens.specs.Places.{ends};
 ghost use Rattle.tokens.specs.Lines.{landed};
 ghost use Rattle.tokens.specs.Headers.{gap, line_start, widths_at, sum_at, header_at};
 
 use crate::cursor::Cursor;
 use crate::fault::Fault;
-use crate::token::{is_blank, run_len};
+use crate::token::is_blank;
 use circuits::answer::Refusal;
 
 // A circuit has at least 1 wire and at most this many.
@@ -48,10 +47,20 @@ impl<'a> Cursor<'a> {
         ensures text { self.new.text ≡ self.old.text }
         ensures at { self.new.at ≡ line_start self.old.text.now self.old.at }
     {
-        let rest = &self.text[self.at..];
-        let gap = run_len(rest, is_gap);
-        self.line += line_ends(&rest[..gap]);
-        self.at += gap;
+        // In locals, since a loop over the fields may write both to memory for each byte.
+        let mut at = self.at;
+        let mut line = self.line;
+        for b in &self.text[at..] {
+            if !is_gap(*b) {
+                break;
+            }
+            if *b == b'\n' {
+                line += 1;
+            }
+            at += 1;
+        }
+        self.at = at;
+        self.line = line;
     }
 
     // A line of widths, and their sum.
@@ -100,11 +109,4 @@ fn is_gap(b: u8) -> bool
     ensures { result ≡ gap b }
 {
     is_blank(b) || b == b'\n'
-}
-
-// How many lines end in these bytes.
-fn line_ends(bytes: &[u8]) -> usize
-    ensures { result ≡ ends bytes.now }
-{
-    bytes.iter().filter(|b| **b == b'\n').count()
 }
