@@ -18,6 +18,7 @@ stopped t base n m₀ m from h next x =
       reached = record { some = x.arrived.some; below = w.stack.below; path = w.path; last = x.arrived.last };
       fresh = w.ours;
       spread = w.spread;
+      begun = x.begun;
       further = x.further;
       within = x.within;
       served = x.served;
@@ -51,6 +52,7 @@ module _ (lists : List (List ℕ)) (goal chosen : ℕ → Bool) (base n : ℕ) (
           reached = λ p l f. x.spread.reached p l (clear p l, f.1);
           closed = λ p l f. x.spread.closed p l (clear p l, f.1);
         };
+        begun = x.begun;
         further = x.further;
         within = x.within;
         served = x.served;

@@ -1,12 +1,13 @@
 -- A whole turn of a walk, and that it makes the measure fall.
-use Rattle.std.proofs.Common.{◌≡◌, ℕ, ◌+◌, ◌-◌, ◌<◌, ◌≤◌, Bool, true, false, List, length, get_or, sym, ap, ◌∙◌, subst, ⊎_elim, arith}
+use Rattle.std.proofs.Common.{◌≡◌, ℕ, ◌+◌, ◌-◌, ◌<◌, ◌≤◌, Bool, true, false, List, length, get_or, sym, ap, ◌∙◌, subst, ⊎_elim, arith, get_or-set_other}
 use Rattle.std.proofs.lemmas.Bool.{cases_eq, cases_lt}
 use Rattle.search.specs.Graphs.{Step, row, Inside}
 use Rattle.search.specs.Rows.{mark, stacked, tried}
 use Rattle.search.specs.Searches.{Led}
 use Rattle.search.specs.Walks.{pushed, moved, Passed, Turned, Walk}
 use Rattle.search.specs.Walks.Turned.{popped, stepped}
-use Rattle.search.proofs.Totals.{ahead}
+use Rattle.search.proofs.Totals.{tally_room, ahead}
+use Rattle.search.proofs.Writes.{stacked_old}
 use Rattle.search.proofs.Walks.{walk_push, push_falls, push_tried, push_marks, push_grows, walk_pass, pass_falls, pass_grows, walk_pop}
 
 -- the steps tried and those passed since
@@ -55,3 +56,14 @@ module _ (lists : List (List ℕ)) (goal chosen : ℕ → Bool) (base n : ℕ) (
         omega (arith, fall, fall₂),
         λ x l g. pass_grows lists goal chosen base n m₀ m₁ (h + 1) p (i + 1) ins w₁ pl led x l (grows x l g),
       ))
+
+  -- the bottom of the stack stays
+  pub turn_bottom : Turned lists base n m h (stacked base n m (h - 1)) m' r → stacked base n m' 0 ≡ stacked base n m 0
+  turn_bottom (popped passed same less) = ap (λ x. stacked base n x 0) same
+  turn_bottom (stepped i q o same grown) =
+      let p = stacked base n m (h - 1) in
+      let ql : q < n = subst (λ x. x < n) o.leads (ins.leads p i (w.stack.below (h - 1) (omega arith)) o.high) in
+      let short : h < n = omega (arith, w.stack.count, tally_room base n m q ql o.free) in
+      ap (λ x. stacked base n x 0) same
+      ∙ get_or-set_other (pushed base n m h q) (base + n + n + p) (base + n + 0) (i + 1) 0 (omega arith)
+      ∙ stacked_old base n m h q w.stack.room ql short 0 some

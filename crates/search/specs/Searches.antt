@@ -56,11 +56,12 @@ pub record Spread (lists : List (List ℕ)) (goal chosen : ℕ → Bool) (base n
 abbrev pub Served : (ℕ → Bool) → ℕ → List ℕ → ℕ → ℕ → Type 0
 Served chosen base m from end = (p : ℕ) → from ≤ p → p < end → chosen p ≡ true → 0 < mark base m p
 
--- a path to a goal is on the stack, all of fresh places; the search goes on from the chosen places at `next`
+-- a path to a goal is on the stack, all of fresh places; the search goes on from the chosen places at `next`, one past the path's first place
 pub record Stopped (lists : List (List ℕ)) (goal chosen : ℕ → Bool) (base n : ℕ) (old : ℕ → ℕ) (m : List ℕ) (from h next : ℕ) : Type 0 where
   pub reached : Reached lists goal chosen base n m h
   pub fresh : (k : ℕ) → k < h → Fresh old base m (stacked base n m k)
   pub spread : Spread lists goal chosen base n old m h
+  pub begun : next ≡ stacked base n m 0 + 1
   pub further : from < next
   pub within : next ≤ n
   pub served : Served chosen base m from next
@@ -77,9 +78,10 @@ pub record Exhausted (lists : List (List ℕ)) (goal chosen : ℕ → Bool) (bas
   pub served : Served chosen base m from n
   pub none : (p : ℕ) → ReachesPast n lists chosen old from p → goal p ≡ false
 
--- a path to a goal is on the stack; the search goes on from the chosen places at `next`, and those before, from `from` on, are marked
+-- a path to a goal is on the stack; the search goes on from the chosen places at `next`, one past the path's first place, and those before, from `from` on, are marked
 pub record Met (lists : List (List ℕ)) (goal chosen : ℕ → Bool) (base n : ℕ) (m : List ℕ) (from h next : ℕ) : Type 0 where
   pub reached : Reached lists goal chosen base n m h
+  pub begun : next ≡ stacked base n m 0 + 1
   pub within : next ≤ n
   pub served : Served chosen base m from next
 

@@ -73,13 +73,14 @@ pub record Arrived (t : Meaning) (base n : ℕ) (m₀ m : List ℕ) (h : ℕ) : 
   pub some : 0 < h
   pub last : t.goal (take base m₀) (stacked base n m (h - 1)) ≡ true
 
--- a walk from one place: to a goal, or until nothing is left on the stack
-abbrev pub Dived : Meaning → ℕ → ℕ → List ℕ → List ℕ → Option ℕ → Type 0
-Dived t base n m₀ m r = MatchOption r (On t base n (take base m₀) m₀ m 0) (λ h. Arrived t base n m₀ m h)
+-- a walk from the place p: to a goal, with p at the bottom of the stack, or until nothing is left on it
+abbrev pub Dived : Meaning → ℕ → ℕ → List ℕ → ℕ → List ℕ → Option ℕ → Type 0
+Dived t base n m₀ p m r = MatchOption r (On t base n (take base m₀) m₀ m 0) (λ h. Arrived t base n m₀ m h × (stacked base n m 0 ≡ p))
 
 -- a walk from the chosen places from `from` on
 pub record Hit (t : Meaning) (base n : ℕ) (m₀ m : List ℕ) (from h next : ℕ) : Type 0 where
   pub arrived : Arrived t base n m₀ m h
+  pub begun : next ≡ stacked base n m 0 + 1
   pub further : from < next
   pub within : next ≤ n
   pub served : Served (t.chosen (take base m₀)) base m from next

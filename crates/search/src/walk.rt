@@ -146,7 +146,7 @@ impl<'a, G: Graph> Walker<'a, G> {
         requires inside { place < self.now.count }
         requires free { mark self.now.base memory.old place ≡ 0 }
         requires root { (G.meaning self.now.graph.now).chosen (take self.now.base memory.old) place ≡ true }
-        ensures dived { Dived (G.meaning self.now.graph.now) self.now.base self.now.count memory.old memory.new result }
+        ensures dived { Dived (G.meaning self.now.graph.now) self.now.base self.now.count memory.old place memory.new result }
         ensures marked { 0 < mark self.now.base memory.new place }
     {
         self.push(memory, 0, place);
@@ -165,7 +165,7 @@ impl<'a, G: Graph> Walker<'a, G> {
     fn visit(&self, memory: &mut [u32], number: u32) -> Option<u32>
         requires room { self.now.base + 3 * self.now.count ≤ length memory.old }
         requires inside { number < self.now.count }
-        ensures dived { Dived (G.meaning self.now.graph.now) self.now.base self.now.count memory.old memory.new result }
+        ensures dived { Dived (G.meaning self.now.graph.now) self.now.base self.now.count memory.old number memory.new result }
         ensures marked { (G.meaning self.now.graph.now).chosen (take self.now.base memory.old) number ≡ true → 0 < mark self.now.base memory.new number }
     {
         if memory[self.mark(number)] == 0
@@ -178,9 +178,10 @@ impl<'a, G: Graph> Walker<'a, G> {
     }
 
     // Walks over unmarked places from the chosen places whose numbers are `from` or more, until a goal.
-    pub fn hunt(&self, memory: &mut [u32], from: u32) -> Option<Found>
-        requires room { self.now.base + 3 * self.now.count ≤ length memory.old }
-        ensures { Hunted (G.meaning self.now.graph.now) self.now.base self.now.count memory.old memory.new from result }
+    // The walker is taken by value: behind a reference both numbers would be read again after each write of the memory.
+    pub fn hunt(self, memory: &mut [u32], from: u32) -> Option<Found>
+        requires room { self.base + 3 * self.count ≤ length memory.old }
+        ensures { Hunted (G.meaning self.entry.graph.now) self.entry.base self.entry.count memory.old memory.new from result }
     {
         // No `find_map`, which is no plainer: its closure would change the memory, and wants two proofs by hand where this loop wants none.
         for number in from..self.count {

@@ -17,8 +17,8 @@ loop-height-smaller g c =
     let m = c.args.memory.now in
     let all = g.met.G.Graph.inside s.graph.now (take s.base m) in
     let l = c.loop-height in
-    let o = going t s.base s.count m c.args.place s.places all c.requires.inside l.memory l.height c.advance-height.new.memory c.advance-height.result l.invariant.0 l.invariant.1 c.loop-height-test.true c.if-at_goal.ensures c.advance-height.ensures in
-    o.2
+    let o = going t s.base s.count m c.args.place s.places all c.requires.inside l.memory l.height c.advance-height.new.memory c.advance-height.result l.invariant.0 l.invariant.1 l.invariant.2 c.loop-height-test.true c.if-at_goal.ensures c.advance-height.ensures in
+    o.3
 
 pub loop-height-preserved : goal.loop-height-preserved
 loop-height-preserved g c =
@@ -27,5 +27,5 @@ loop-height-preserved g c =
     let m = c.args.memory.now in
     let all = g.met.G.Graph.inside s.graph.now (take s.base m) in
     let l = c.loop-height in
-    let o = going t s.base s.count m c.args.place s.places all c.requires.inside l.memory l.height c.advance-height.new.memory c.advance-height.result l.invariant.0 l.invariant.1 c.loop-height-test.true c.if-at_goal.ensures c.advance-height.ensures in
-    (o.0, o.1)
+    let o = going t s.base s.count m c.args.place s.places all c.requires.inside l.memory l.height c.advance-height.new.memory c.advance-height.result l.invariant.0 l.invariant.1 l.invariant.2 c.loop-height-test.true c.if-at_goal.ensures c.advance-height.ensures in
+    (o.0, o.1, o.2)
