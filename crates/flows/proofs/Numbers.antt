@@ -73,6 +73,14 @@ from_none how =
     (⊎_elim (λ t. subst FromNone (sym t.1) (λ a b v. (refl, λ x. x, λ x. x)))
     (λ t. subst FromNone (sym t.2) (λ a b v. (refl, λ x. x, λ x. x))))
 
+pub kind_none : (k f s : ℕ) → (k ≡ 0) ⊎ (3 < k) → FromNone (making k f s)
+kind_none zero f s h = λ a b v. (refl, λ x. x, λ x. x)
+kind_none (suc zero) f s h = absurd (⊎_elim (λ e. omega arith) (λ e. omega arith) h)
+kind_none (suc (suc zero)) f s h = absurd (⊎_elim (λ e. omega arith) (λ e. omega arith) h)
+kind_none (suc (suc (suc zero))) f s h = absurd (⊎_elim (λ e. omega arith) (λ e. omega arith) h)
+kind_none (suc (suc (suc (suc zero)))) f s h = λ a b v. (refl, λ x. x, λ x. x)
+kind_none (suc (suc (suc (suc (suc k))))) f s h = λ a b v. (refl, λ x. x, λ x. x)
+
 pub from_one : (how : Making) (f : ℕ) → (how ≡ Copy f) ⊎ (how ≡ Inversion f) → FromOne how f
 from_one how f =
     ⊎_elim (λ e. subst (λ how. FromOne how f) (sym e) (λ a b v. (refl, λ x. x, λ x. x)))

@@ -68,11 +68,16 @@ pub fn grow(rows: &mut Rows, height: usize)
     ensures same { SameRows rows.old rows.new }
     ensures memory { Grown rows.old.wires height rows.old.memory.now rows.new.memory.now }
 {
-    let last = stack_at(rows, height - 1);
-    end_one(rows, last as usize / 2);
-    push_all(rows, height);
-    let first = stack_at(rows, 0);
-    begin_one(rows, first as usize / 2);
+    // Rows of its own, as in `prepare`, since each step of the path writes.
+    let wires = rows.wires;
+    let memory = &mut *rows.memory;
+    let mut own = Rows { memory, wires };
+    let last = stack_at(&own, height - 1);
+    end_one(&mut own, last as usize / 2);
+    push_all(&mut own, height);
+    let first = stack_at(&own, 0);
+    begin_one(&mut own, first as usize / 2);
+    let _memory = own.memory;
 }
 
 // Drops all routes.

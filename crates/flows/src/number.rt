@@ -8,6 +8,7 @@ ghost use Rattle.flows.specs.Units.{Ending};
 ghost use Rattle.flows.specs.Numbers.{Numbers, Numbered, Numbering, noted, Endings, Ended, Marked, Prepared};
 
 use circuits::making::Making;
+use rows::held::Kind;
 use rows::rows::{Row, Rows, View};
 
 // What tracing reads is noted in the rows of the stack and of the steps tried, since the search is over then, and in one row more.
@@ -28,8 +29,7 @@ pub struct UnitAt {
     pub number: u32,
 }
 
-// Notes the number of the next unit of a wire, and counts on. Over the slice itself, as are the first numbers below: `get` and `put` fetch it again
-// after each write, and took a quarter longer.
+// Notes the number of the next unit of a wire, and counts on.
 fn note(rows: &mut Rows, row: Row, from: usize, wire: usize, units: u32)
     requires other { row_number row ≢ 17 }
     requires from { from < rows.old.wires }
@@ -38,14 +38,12 @@ fn note(rows: &mut Rows, row: Row, from: usize, wire: usize, units: u32)
     ensures same { SameRows rows.old rows.new }
     ensures memory { rows.new.memory.now ≡ noted rows.old.memory.now rows.old.wires (row_number row) from wire units }
 {
-    let wires = rows.wires;
-    let memory = &mut *rows.memory;
-    let next = memory[RUNNING.number() * wires + from];
-    memory[row.number() * wires + wire] = next;
-    memory[RUNNING.number() * wires + from] = next + units;
+    let next = rows.get(RUNNING, from);
+    rows.put(row, wire, next);
+    rows.put(RUNNING, from, next + units);
 }
 
-// Numbers the units that come to one wire.
+// Numbers the units that come to one wire. Where none can come, the number of the kind tells it sooner than the making that it stands for.
 fn number_wire(rows: &mut Rows, wire: usize)
     requires ordered { Ordered (circuit_in rows.old) }
     requires wire { wire < rows.old.wires }
@@ -54,6 +52,10 @@ fn number_wire(rows: &mut Rows, wire: usize)
     ensures same { SameRows rows.old rows.new }
     ensures memory { Numbering rows.old.wires rows.old.memory.now rows.new.memory.now (wire + 1) }
 {
+    let kind = rows.get(Row::Kind, wire);
+    if kind == Kind::Input as u32 || kind > Kind::Sum as u32 {
+        return;
+    }
     let a = rows.get(Row::FromFirst, wire);
     let b = rows.get(Row::FromSecond, wire);
     match rows.making(wire) {
@@ -155,8 +157,14 @@ pub fn prepare(rows: &mut Rows)
     ensures same { SameRows rows.old rows.new }
     ensures memory { Prepared rows.old.wires rows.old.memory.now rows.new.memory.now }
 {
-    number_ends(rows);
-    number_units(rows);
+    // Rows of its own, whose slice stays at hand: behind the reference it would be fetched again after each write.
+    let wires = rows.wires;
+    let memory = &mut *rows.memory;
+    let mut own = Rows { memory, wires };
+    number_ends(&mut own);
+    number_units(&mut own);
+    // Moved out, so that the memory is known to be as `own` left it.
+    let _memory = own.memory;
 }
 
 // The wire at which a unit ends, and its number there.

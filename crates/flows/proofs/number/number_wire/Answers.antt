@@ -1,9 +1,22 @@
-use Rattle.std.proofs.Common.{◌+◌, sym, ◌∙◌, subst, ap₂, arith}
+use Rattle.std.proofs.Common.{◌+◌, sym, refl, ◌∙◌, subst, ap₂, inl, inr, arith}
 use Rattle.rows.specs.Rows.{cell}
 use Rattle.flows.specs.Numbers.{Numbering, noted}
 use Rattle.rows.proofs.Rooms.{room_of}
-use Rattle.flows.proofs.Numbers.{from_none, turn_none, one_few, turn_one, two_few, two_more_few, turn_two}
+use Rattle.flows.proofs.Numbers.{from_none, kind_none, turn_none, one_few, turn_one, two_few, two_more_few, turn_two}
+use Rattle.rows.proofs.HeldCircuit.{circuit_at}
+use Rattle.rows.specs.Held.{making}
 use Rattle.flows.proofs.number.number_wire.Goals as goal
+use Rattle.flows.proofs.number.number_wire.Goals.{then-kind-via-then-kind, then-kind-via-else-kind+then-kind-2}
+
+pub returns-then-kind-clause-memory : goal.returns-then-kind-clause-memory
+returns-then-kind-clause-memory c =
+    let m = c.args.rows.now.memory.now in
+    let n = c.args.rows.now.wires in
+    let w = c.args.wire in
+    turn_none n m (room_of c.args.rows.now) w c.requires.wire (making (cell m n 0 w) (cell m n 1 w) (cell m n 2 w)) (cell m n 9 w) (cell m n 10 w)
+    (sym (circuit_at m n w)) refl refl c.requires.ordered c.requires.numbers
+    (kind_none (cell m n 0 w) (cell m n 1 w) (cell m n 2 w)
+    (elim c.then-kind.branch [ then-kind-via-then-kind w ↦ inl (sym c.get-kind.ensures ∙ w.if-kind.true) | then-kind-via-else-kind+then-kind-2 w ↦ inr (omega (arith, c.get-kind.ensures, w.if-kind-2.true)) ]))
 
 pub note-requires-in-Copy-clause-few : goal.note-requires-in-Copy-clause-few
 note-requires-in-Copy-clause-few c =
