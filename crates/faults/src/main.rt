@@ -5,7 +5,7 @@ mod cases;
 
 use cases::{CASES, Case, Left, Place};
 use circuits::making::{Entry, Making};
-use reading::{CLEARED, LONGEST_TEXT, read_circuit};
+use reading::{LONGEST_TEXT, read_circuit};
 use std::alloc::{AllocError, Global};
 use std::io;
 use tokens::fault::{Fault, Reader};
@@ -14,6 +14,12 @@ use tokens::header::{Header, MOST_WIRES};
 const FILLER: Entry = Entry {
     making: Making::Copy(77),
     name: 77,
+};
+
+// What a refusal is to leave: a value of this program's own, and not the one that the reader fills with.
+const CLEARED: Entry = Entry {
+    making: Making::Constant(false),
+    name: 0,
 };
 
 // Where a text is refused, if it is.
