@@ -2,7 +2,7 @@
 use Rattle.std.proofs.Common.{◌≡◌, ℕ, zero, suc, ◌+◌, ◌<◌, ◌≤◌, Bool, true, false, ◌&&◌, eqb, leb, nat_lt, List, [], ◌∷◌, length, get_or, sym, refl, ap, ◌∙◌, subst, inl, inr, arith}
 use Rattle.std.specs.List.{IsAllAdjacentAnswer}
 use Rattle.std.proofs.lemmas.Option.{slice_get_past}
-use Rattle.std.proofs.lemmas.Bool.{MatchBool-at_true, MatchBool-at_false, ltb-true, lt-ltb, cases_Bool, cases_lt, both_ways, and_parts, and_from, leb-true, le-leb, ne_eqb, or_from}
+use Rattle.std.proofs.lemmas.Bool.{MatchBool-at_true, MatchBool-at_false, ltb-true, ltb-false, lt-ltb, cases_Bool, cases_lt, both_ways, and_parts, and_from, leb-true, le-leb, ne_eqb, or_from}
 use Rattle.circuits.specs.Levels.{produced_of, produced_at, plan_fits, has}
 use Rattle.circuits.specs.declared.making.Making.{Making}
 
@@ -38,6 +38,25 @@ fits_rising ms low (x ∷ xs) (suc k) e h =
     let s : suc (k + 1) ≡ suc k + 1 = omega arith in
     subst (λ i. get_or xs k 0 < get_or (x ∷ xs) i 0) s (fits_rising ms (x + 1) xs k (and_parts (leb low x && produced_at ms x) (plan_fits ms (x + 1) xs) e).1 (omega arith))
 
+module _ (ms : List Making) (plan : List ℕ) where
+  -- what `is_sorted_by` answers of the ranks, where some do not ascend
+  pub plan_falls : (sorted : Bool) → sorted ≡ false → IsAllAdjacentAnswer (λ x y b. b ≡ nat_lt x y) plan sorted → sorted ≡ plan_fits ms 0 plan
+  plan_falls sorted off answer =
+      let f = MatchBool-at_false _ _ off answer in
+      let l : get_or plan (f.0 + 1) 0 ≤ get_or plan f.0 0 = ltb-false (get_or plan f.0 0) (get_or plan (f.0 + 1) 0) (sym (f.2 0)) in
+      elim (cases_Bool (plan_fits ms 0 plan)) [ inl e ↦ absurd (omega (arith, l, fits_rising ms 0 plan f.0 e f.1)) | inr e ↦ off ∙ sym e ]
+
+  -- what `all` answers of them, where they ascend
+  pub plan_is : (sorted r : Bool) → sorted ≡ true → IsAllAdjacentAnswer (λ x y b. b ≡ nat_lt x y) plan sorted
+      → (r ≡ true → (k : ℕ) → k < length plan → produced_at ms (get_or plan k 0) ≡ true)
+      → (r ≡ false → (k : ℕ) × (k < length plan) × (produced_at ms (get_or plan k 0) ≡ false)) → r ≡ plan_fits ms 0 plan
+  plan_is sorted true on answer passes fails =
+      let a = MatchBool-at_true _ _ on answer in
+      sym (fits_from ms 0 plan (λ h. omega arith) (λ k h. ltb-true (get_or plan k 0) (get_or plan (k + 1) 0) (sym (a k 0 h))) (passes refl))
+  plan_is sorted false on answer passes fails =
+      let n = fails refl in
+      elim (cases_Bool (plan_fits ms 0 plan)) [ inl e ↦ absurd (both_ways (produced_at ms (get_or plan n.0 0)) n.2 (fits_above ms 0 plan n.0 e n.1).1) | inr e ↦ sym e ]
+
 made_from : (ms : List Making) (plan : List ℕ) → (0 < length plan → produced_at ms (get_or plan 0 0) ≡ true) → ((k : ℕ) → k + 1 < length plan → produced_at ms (get_or plan (k + 1) 0) ≡ true)
     → (k : ℕ) → k < length plan → produced_at ms (get_or plan k 0) ≡ true
 made_from ms plan first others zero h = first h
@@ -46,9 +65,9 @@ made_from ms plan first others (suc k) h =
     subst (λ i. produced_at ms (get_or plan i 0) ≡ true) s (others k (omega arith))
 
 -- what `is_sorted_by` answers of the ranks, where each but the first is that of a produced wire above the one before it
-pub plan_is : (ms : List Making) (plan : List ℕ) (sorted : Bool) → (0 < length plan → produced_at ms (get_or plan 0 0) ≡ true)
+pub plan_walked : (ms : List Making) (plan : List ℕ) (sorted : Bool) → (0 < length plan → produced_at ms (get_or plan 0 0) ≡ true)
     → IsAllAdjacentAnswer (λ x y b. b ≡ (nat_lt x y && produced_at ms y)) plan sorted → sorted ≡ plan_fits ms 0 plan
-plan_is ms plan sorted first answer =
+plan_walked ms plan sorted first answer =
     elim (cases_Bool sorted) [
       | inl on ↦
           let a = MatchBool-at_true _ _ on answer in

@@ -26,14 +26,25 @@ module _ (t : Meaning) (base n : ℕ) (m : List ℕ) (place : ℕ) (count : n �
       )
 
   -- a turn where the top is no goal
-  pub going : (m₂ : List ℕ) (h : ℕ) (m₃ : List ℕ) (r : ℕ) → On t base n (take base m) m m₂ h → 0 < mark base m₂ place → stacked base n m₂ 0 ≡ place → 0 < h
+  pub going : (m₂ : List ℕ) (h : ℕ) (m₃ : List ℕ) (r : ℕ) → On t base n (take base m) m m₂ h → 0 < mark base m₂ place → 0 < h
       → false ≡ t.goal (take base m₂) (stacked base n m₂ (h - 1)) → Turned (t.steps (take base m₂)) base n m₂ h (stacked base n m₂ (h - 1)) m₃ r
-      → On t base n (take base m) m m₃ r × (0 < mark base m₃ place) × (stacked base n m₃ 0 ≡ place) × (ahead (t.steps (take base m)) base n m₃ + r < ahead (t.steps (take base m)) base n m₂ + h)
-  going m₂ h m₃ r w there bottom some plain turned =
+      → On t base n (take base m) m m₃ r × (0 < mark base m₃ place) × (ahead (t.steps (take base m)) base n m₃ + r < ahead (t.steps (take base m)) base n m₂ + h)
+  going m₂ h m₃ r w there some plain turned =
       let f = take base m in
       let e : take base m₂ ≡ f = w.kept.front in
-      let turn = subst (λ x. Turned (t.steps x) base n m₂ h (stacked base n m₂ (h - 1)) m₃ r) e turned in
       let one = turn_walk (t.steps f) (t.goal f) (t.chosen f) base n m m₂ h m₃ r ins w some
-      (sym (subst (λ x. false ≡ t.goal x (stacked base n m₂ (h - 1))) e plain)) turn in
-      let low = turn_bottom (t.steps f) (t.goal f) (t.chosen f) base n m m₂ h m₃ r ins w some turn in
-      (one.0, one.2 place inside there, low ∙ bottom, one.1)
+      (sym (subst (λ x. false ≡ t.goal x (stacked base n m₂ (h - 1))) e plain))
+      (subst (λ x. Turned (t.steps x) base n m₂ h (stacked base n m₂ (h - 1)) m₃ r) e turned) in
+      (one.0, one.2 place inside there, one.1)
+
+  -- such a turn of a walk that began at the place
+  pub going_from : (m₂ : List ℕ) (h : ℕ) (m₃ : List ℕ) (r : ℕ) → On t base n (take base m) m m₂ h → 0 < mark base m₂ place → stacked base n m₂ 0 ≡ place → 0 < h
+      → false ≡ t.goal (take base m₂) (stacked base n m₂ (h - 1)) → Turned (t.steps (take base m₂)) base n m₂ h (stacked base n m₂ (h - 1)) m₃ r
+      → On t base n (take base m) m m₃ r × (0 < mark base m₃ place) × (stacked base n m₃ 0 ≡ place) × (ahead (t.steps (take base m)) base n m₃ + r < ahead (t.steps (take base m)) base n m₂ + h)
+  going_from m₂ h m₃ r w there bottom some plain turned =
+      let f = take base m in
+      let e : take base m₂ ≡ f = w.kept.front in
+      let one = going m₂ h m₃ r w there some plain turned in
+      let low = turn_bottom (t.steps f) (t.goal f) (t.chosen f) base n m m₂ h m₃ r ins w some
+      (subst (λ x. Turned (t.steps x) base n m₂ h (stacked base n m₂ (h - 1)) m₃ r) e turned) in
+      (one.0, one.1, low ∙ bottom, one.2)

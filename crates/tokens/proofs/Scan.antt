@@ -1,13 +1,17 @@
 -- Laws of rows of bytes, and of `next_token`.
-use Rattle.std.proofs.Common.{◌≡◌, ℕ, suc, ◌+◌, ◌≤◌, Bool, true, false, cond, eqb, List, [], ◌∷◌, ◌++◌, length, take, drop, Ok, Result, sym, refl, ap, ◌∙◌, ⊎_elim, add-zero, one-add, arith, take-add, length-drop}
+use Rattle.std.proofs.Common.{◌≡◌, ℕ, suc, ◌+◌, ◌≤◌, Bool, true, false, cond, eqb, List, [], ◌∷◌, ◌++◌, length, take, drop, Ok, Result, sym, refl, ap, ◌∙◌, count_by, ⊎_elim, add-zero, one-add, arith, take-add, length-drop}
 use Rattle.std.specs.List.{prefix_len}
 use Rattle.std.proofs.lemmas.List.{length-take-le, drop-drop}
 use Rattle.std.proofs.lemmas.Bool.{cases_Bool, cond-true, cond-false, eq-eqb, ne_eqb}
 use Rattle.std.proofs.lemmas.Bool.Decides.{nat_tests}
+use Rattle.std.proofs.lemmas.List.Recursion.{is_count_by}
 use Rattle.tokens.specs.Places.{visible, blank, ends, line_of}
 use Rattle.tokens.specs.declared.fault.Fault.{Fault}
 use Rattle.tokens.specs.Numbers.{value_of}
 use Rattle.tokens.specs.Tokens.{Piece, sorted, front, next_token, no_token}
+
+pub ends_count : (xs : List ℕ) → ends xs ≡ count_by (λ b. eqb b 10) xs
+ends_count = is_count_by ends (λ b. eqb b 10) refl (λ x xs. refl)
 
 pub ends_append : (xs ys : List ℕ) → ends (xs ++ ys) ≡ ends xs + ends ys
 ends_append [] ys = omega arith

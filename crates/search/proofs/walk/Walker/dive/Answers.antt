@@ -1,5 +1,5 @@
 use Rattle.std.proofs.Common.{take}
-use Rattle.search.proofs.Dives.{began, going}
+use Rattle.search.proofs.Dives.{began, going_from}
 use Rattle.search.proofs.walk.Walker.dive.Goals as goal
 
 pub loop-height-init : goal.loop-height-init
@@ -17,7 +17,7 @@ loop-height-smaller g c =
     let m = c.args.memory.now in
     let all = g.met.G.Graph.inside s.graph.now (take s.base m) in
     let l = c.loop-height in
-    let o = going t s.base s.count m c.args.place s.places all c.requires.inside l.memory l.height c.advance-height.new.memory c.advance-height.result l.invariant.0 l.invariant.1 l.invariant.2 c.loop-height-test.true c.if-at_goal.ensures c.advance-height.ensures in
+    let o = going_from t s.base s.count m c.args.place s.places all c.requires.inside l.memory l.height c.advance-height.new.memory c.advance-height.result l.invariant.0 l.invariant.1 l.invariant.2 c.loop-height-test.true c.if-at_goal.ensures c.advance-height.ensures in
     o.3
 
 pub loop-height-preserved : goal.loop-height-preserved
@@ -27,5 +27,5 @@ loop-height-preserved g c =
     let m = c.args.memory.now in
     let all = g.met.G.Graph.inside s.graph.now (take s.base m) in
     let l = c.loop-height in
-    let o = going t s.base s.count m c.args.place s.places all c.requires.inside l.memory l.height c.advance-height.new.memory c.advance-height.result l.invariant.0 l.invariant.1 l.invariant.2 c.loop-height-test.true c.if-at_goal.ensures c.advance-height.ensures in
+    let o = going_from t s.base s.count m c.args.place s.places all c.requires.inside l.memory l.height c.advance-height.new.memory c.advance-height.result l.invariant.0 l.invariant.1 l.invariant.2 c.loop-height-test.true c.if-at_goal.ensures c.advance-height.ensures in
     (o.0, o.1, o.2)
