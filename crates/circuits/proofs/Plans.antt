@@ -65,9 +65,9 @@ made_from ms plan first others (suc k) h =
     subst (λ i. produced_at ms (get_or plan i 0) ≡ true) s (others k (omega arith))
 
 -- what `is_sorted_by` answers of the ranks, where each but the first is that of a produced wire above the one before it
-pub plan_walked : (ms : List Making) (plan : List ℕ) (sorted : Bool) → (0 < length plan → produced_at ms (get_or plan 0 0) ≡ true)
+pub neighbours_fit : (ms : List Making) (plan : List ℕ) (sorted : Bool) → (0 < length plan → produced_at ms (get_or plan 0 0) ≡ true)
     → IsAllAdjacentAnswer (λ x y b. b ≡ (nat_lt x y && produced_at ms y)) plan sorted → sorted ≡ plan_fits ms 0 plan
-plan_walked ms plan sorted first answer =
+neighbours_fit ms plan sorted first answer =
     elim (cases_Bool sorted) [
       | inl on ↦
           let a = MatchBool-at_true _ _ on answer in
